@@ -66,7 +66,7 @@ getD-member (x ∷ xs) (suc i) l =
     ⊎-elim (λ (e : eqb (getD xs i 0) x ≡ true). rw e) (λ (e : eqb (getD xs i 0) x ≡ false). rw e (getD-member xs i (le-of-suc-le-suc l))) (cases (eqb (getD xs i 0) x))
 
 -- what lies below all of a list is no member
-below-all : (h : ℕ) (xs : List ℕ) → All (λ y. h < y) xs → member h xs ≡ false
+pub below-all : (h : ℕ) (xs : List ℕ) → All (λ y. h < y) xs → member h xs ≡ false
 below-all h xs a = ⊎-elim (λ (e : member h xs ≡ true). absurd (omega (arith, all-member (λ y. h < y) xs a h e))) (λ (e : member h xs ≡ false). e) (cases (member h xs))
 
 -- ---- ascending
