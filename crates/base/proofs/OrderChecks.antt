@@ -11,7 +11,7 @@ use native.Mathlib.Omega.{arith}
 use lib.Dec.{ltb, leb}
 use lib.ListN.{length, getD, drop, drop-of-length-le}
 use lib.Seq.{drop-cons}
-use borrow.Author.Tests.{ltb-true, leb-true, lt-ltb, le-leb}
+use borrow.Author.Tests.{ltb-true, leb-true, lt-ltb, le-ltb, le-leb, lt-leb}
 use Rattle.base.specs.Pick.{pick}
 use Rattle.base.specs.Lists.{Asc, StrictAsc}
 use Rattle.base.specs.OrderChecks.{orderFrom, orderOf, FirstWrong}
@@ -140,3 +140,17 @@ module _ {ok : ℕ → ℕ → Bool} {xs : List ℕ} {n p i : ℕ} (c : Checking
   checking-end l =
       let h : length xs ≤ i = omega arith in
       sym (c .left ∙ rw (drop-of-length-le xs h))
+
+-- The same by numbers: strictly ascending, and never down.
+module _ {xs : List ℕ} {n p i : ℕ} where
+  pub strict-step : Checking ltb xs n p i → i < n → p < getD xs i 0 → Checking ltb xs n (getD xs i 0) (i + 1)
+  strict-step c l h = checking-step c l (lt-ltb p (getD xs i 0) h)
+
+  pub strict-stop : Checking ltb xs n p i → i < n → getD xs i 0 ≤ p → i ≡ orderOf ltb xs
+  strict-stop c l h = checking-stop c l (le-ltb p (getD xs i 0) h)
+
+  pub asc-step : Checking leb xs n p i → i < n → p ≤ getD xs i 0 → Checking leb xs n (getD xs i 0) (i + 1)
+  asc-step c l h = checking-step c l (le-leb p (getD xs i 0) h)
+
+  pub asc-stop : Checking leb xs n p i → i < n → getD xs i 0 < p → i ≡ orderOf leb xs
+  asc-stop c l h = checking-stop c l (lt-leb p (getD xs i 0) h)
