@@ -1,6 +1,6 @@
 -- `All` and the two orders by the index, and how often a number stands in a list: by recursion on the list. Assumes nothing.
-use mathlib.Core.Path.{_≡_, refl}
-use mathlib.Core.Logic.{⊎-elim}
+use mathlib.Core.Path.{_≡_, refl, sym, ap, _∙_}
+use mathlib.Core.Logic.{⊎-elim, _≢_}
 use mathlib.Core.List.{List, [], _∷_, _++_}
 use Prim.Native.Nat.{ℕ, zero, suc, _+_, _≤_, _<_}
 use native.Mathlib.Nat.{le-of-suc-le-suc, not-suc-le-zero, eq-or-lt-of-le}
@@ -9,6 +9,7 @@ use native.Mathlib.Omega.{arith}
 use lib.ListN.{length, getD}
 use borrow.Author.Tests.{eq-eqb, ne-eqb}
 use Rattle.base.specs.Lists.{All, Ordered, Asc, StrictAsc, hit, times}
+use Rattle.base.proofs.Order.{eq-or-ne}
 
 -- All, by the index
 
@@ -89,3 +90,38 @@ pub times-above : (v : ℕ) (xs : List ℕ) → All (λ z. v < z) xs → times v
 unfolding times
 times-above v [] a = refl
 times-above v (x ∷ xs) a = let h = hit-other v x (omega arith) in let t = times-above v xs (a .1) in omega arith
+
+-- a number stands where it is an element
+
+pub times-at : (xs : List ℕ) (i : ℕ) → i < length xs → 0 < times (getD xs i 0) xs
+unfolding times
+times-at [] i l = absurd (not-suc-le-zero l)
+times-at (x ∷ xs) zero l = let h = hit-same x in omega arith
+times-at (x ∷ xs) (suc i) l = let t = times-at xs i (le-of-suc-le-suc l) in omega arith
+
+pub times-find : (v : ℕ) (xs : List ℕ) → 0 < times v xs → (i : ℕ) × (i < length xs) × (getD xs i 0 ≡ v)
+unfolding times
+times-find v [] h = absurd (not-suc-le-zero h)
+times-find v (x ∷ xs) h =
+    ⊎-elim (λ (e : v ≡ x). (0, omega arith, sym e))
+    (λ (n : v ≢ x).
+    let o = hit-other v x n in
+    let f = times-find v xs (omega arith) in
+    (suc (f .0), omega (arith, f .1), f .2))
+    (eq-or-ne v x)
+
+-- once at most in a strictly ascending list
+pub times-strict : (v : ℕ) (xs : List ℕ) → StrictAsc xs → times v xs ≤ 1
+unfolding times
+times-strict v [] a = omega arith
+times-strict v (x ∷ xs) a =
+    ⊎-elim
+    (λ (e : v ≡ x).
+    let h : hit v x ≡ 1 = ap (hit v) (sym e) ∙ hit-same v in
+    let t : times v xs ≡ 0 = times-above v xs (all-map (λ y. x < y) (λ y. v < y) (λ y l. omega arith) xs (a .0)) in
+    omega arith)
+    (λ (n : v ≢ x).
+    let o = hit-other v x n in
+    let t = times-strict v xs (a .1) in
+    omega arith)
+    (eq-or-ne v x)

@@ -3,7 +3,7 @@ use Prim.Native.Nat.{_-_}
 use native.Mathlib.Omega.{arith}
 use borrow.Author.Needs.{needs}
 use lib.Dec.{leb}
-use Rattle.base.proofs.OrderChecks.{Checking, checking-none, checking-start, asc-step, asc-stop, checking-end}
+use Rattle.base.proofs.OrderChecks.{Checking, checking-none, checking-start, asc-pass, asc-stop, checking-end}
 use Rattle.base.proofs.first_below.Statement.{statement}
 use Rattle.base.proofs.first_below.Tie as tie
 
@@ -38,7 +38,7 @@ loop-less : tie.Need-loop-less Inv-loop μ-loop
 loop-less c = search needs
 
 loop-again : tie.Need-loop-again Inv-loop μ-loop
-loop-again c = asc-step (c .before .before .before .loop .inv) (omega arith) (omega arith)
+loop-again c = asc-pass (c .before .before .before .loop .inv) (omega arith) (omega arith)
 
 returns-3 : tie.Need-returns-3 Inv-loop μ-loop
 returns-3 c = checking-end (c .before .loop .inv) (omega arith)

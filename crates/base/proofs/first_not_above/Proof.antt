@@ -3,7 +3,7 @@ use Prim.Native.Nat.{_-_}
 use native.Mathlib.Omega.{arith}
 use borrow.Author.Needs.{needs}
 use lib.Dec.{ltb}
-use Rattle.base.proofs.OrderChecks.{Checking, checking-none, checking-start, strict-step, strict-stop, checking-end}
+use Rattle.base.proofs.OrderChecks.{Checking, checking-none, checking-start, strict-pass, strict-stop, checking-end}
 use Rattle.base.proofs.first_not_above.Statement.{statement}
 use Rattle.base.proofs.first_not_above.Tie as tie
 
@@ -38,7 +38,7 @@ loop-less : tie.Need-loop-less Inv-loop μ-loop
 loop-less c = search needs
 
 loop-again : tie.Need-loop-again Inv-loop μ-loop
-loop-again c = strict-step (c .before .before .before .loop .inv) (omega arith) (omega arith)
+loop-again c = strict-pass (c .before .before .before .loop .inv) (omega arith) (omega arith)
 
 returns-3 : tie.Need-returns-3 Inv-loop μ-loop
 returns-3 c = checking-end (c .before .loop .inv) (omega arith)
