@@ -15,6 +15,7 @@ use Rattle.base.specs.Pick.{pick}
 use Rattle.base.specs.Nearest.{LastBelow, NoneBelow, FirstFrom, NoneFrom}
 use Rattle.base.specs.Counting.{count, Same, Bump}
 use Rattle.base.proofs.Order.{lt-or-ge}
+use Rattle.base.proofs.Counting.{count-next}
 use Rattle.rules.specs.Moves.{Slide, inQuery, isActive, inUnion, isShared, before, firstFrom, after, insertShared, insertOther, insertRef, deleteShared, deleteOther, deleteRef, moved}
 use Rattle.rules.specs.Script.{stepped}
 use Rattle.rules.specs.Ranks.{either, both, PivotAt, mark, has, size, Slid}
@@ -211,19 +212,17 @@ counts-either true x y cs e f = e
 counts-either false x y cs e f = f
 
 module _ (ms : List Bool) (s : Slide) (k : Slid ms s) (i : ℕ) (l : i < length ms) where
-  raised : List ℕ
+  abbrev raised : List ℕ
   raised = set (s .counts) i (getD (s .counts) i 0 + 1)
 
   in-counts : i < length (s .counts)
   in-counts = omega (arith, k .lens)
 
   raised-lens : length raised ≡ length ms
-  unfolding raised
   raised-lens = length-set (s .counts) i (getD (s .counts) i 0 + 1) ∙ k .lens
 
   module _ (none : getD (s .counts) i 0 ≡ 0) where
     up-one : Bump (has (s .counts)) (has raised) i
-    unfolding raised
     up-one = raise (s .counts) i (getD (s .counts) i 0 + 1) in-counts none (omega arith)
 
     off : has (s .counts) i ≡ 0
@@ -248,49 +247,57 @@ module _ (ms : List Bool) (s : Slide) (k : Slid ms s) (i : ℕ) (l : i < length 
             (slid-of ms raised (s .pivot) (s .shared) raised-lens
             (shared-kept (u ms (s .counts)) (u ms raised) (h ms (s .counts)) (h ms raised) i (size ms) (s .pivot) (s .shared) same (k .at) more (leb-false i (s .pivot) e)))
 
-    insert-other-slid : inQuery ms i ≡ false → Slid ms (insertOther ms i raised s)
-    unfolding insertOther pick
-    insert-other-slid y = go (leb i (s .pivot)) refl
-      where
-        more : Bump (u ms (s .counts)) (u ms raised) i
-        more = out-query-union (mark ms) (has (s .counts)) (has raised) i off up-one (mark-false ms i y)
+    -- a hash outside the query comes in: the union has one number more, and the shared ones stay
+    module _ (y : inQuery ms i ≡ false) where
+      more-out : Bump (u ms (s .counts)) (u ms raised) i
+      more-out = out-query-union (mark ms) (has (s .counts)) (has raised) i off up-one (mark-false ms i y)
 
-        same : Same (h ms (s .counts)) (h ms raised)
-        same = out-query-meet (mark ms) (has (s .counts)) (has raised) i off up-one (mark-false ms i y)
+      same-out : Same (h ms (s .counts)) (h ms raised)
+      same-out = out-query-meet (mark ms) (has (s .counts)) (has raised) i off up-one (mark-false ms i y)
 
-        -- the pivot is in the union, and i is not
-        apart : i ≤ s .pivot → i < s .pivot
-        apart m =
-            ⊎-elim (λ (x : i < s .pivot). x)
-            (λ (x : s .pivot ≤ i). let q : s .pivot ≡ i = omega arith in absurd (omega (arith, subst (λ (n : ℕ). u ms (s .counts) n ≡ 1) q (k .at .on), mark-false ms i y, off)))
-            (lt-or-ge i (s .pivot))
+      -- the pivot is in the union, and i was not
+      apart : i ≤ s .pivot → i < s .pivot
+      apart m =
+          ⊎-elim (λ (x : i < s .pivot). x)
+          (λ (x : s .pivot ≤ i). let q : s .pivot ≡ i = omega arith in absurd (omega (arith, subst (λ (n : ℕ). u ms (s .counts) n ≡ 1) q (k .at .on), mark-false ms i y, off)))
+          (lt-or-ge i (s .pivot))
 
-        bits : Same (set-of (inUnion ms raised)) (u ms raised)
-        bits j = sym (union-bit ms raised j)
+      -- the Rust's `expect`: the pivot has a predecessor
+      pub insert-some : i ≤ s .pivot → NoneBelow (set-of (inUnion ms raised)) (s .pivot) → ⊥
+      insert-some m none =
+          down-some (u ms (s .counts)) (u ms raised) (h ms (s .counts)) (h ms raised) i (size ms) (s .pivot) (s .shared) same-out (k .at) (under ms raised) more-out (apart m)
+          (λ j n. sym (union-bit ms raised j) ∙ none j n)
 
-        go : (b : Bool) → leb i (s .pivot) ≡ b → Slid ms
-            (pick b (record {
-              counts = raised;
-              pivot = before (inUnion ms raised) (s .pivot);
-              shared = s .shared - pick (isShared ms raised (s .pivot)) 1 0;
-            })
-            (record { counts = raised; pivot = s .pivot; shared = s .shared }))
-        go true e =
-            let below = apart (leb-true i (s .pivot) e) in
-            let some : NoneBelow (set-of (inUnion ms raised)) (s .pivot) → ⊥ =
-            λ none. down-some (u ms (s .counts)) (u ms raised) (h ms (s .counts)) (h ms raised) i (size ms) (s .pivot) (s .shared) same (k .at) (under ms raised) more below
-            (λ j m. bits j ∙ none j m) in
-            let prev = last-same (set-of (inUnion ms raised)) (u ms raised) (s .pivot) (before (inUnion ms raised) (s .pivot)) bits (before-last (inUnion ms raised) (s .pivot) some) in
-            rw (shared-bit ms raised (s .pivot), same (s .pivot))
-            (slid-of ms raised (before (inUnion ms raised) (s .pivot)) (s .shared - h ms (s .counts) (s .pivot)) raised-lens
-            (down (u ms (s .counts)) (u ms raised) (h ms (s .counts)) (h ms raised) i (size ms) (s .pivot) (s .shared) same (k .at) (under ms raised) more below
-            (before (inUnion ms raised) (s .pivot)) prev))
-        go false e =
-            slid-of ms raised (s .pivot) (s .shared) raised-lens
-            (above-in (u ms (s .counts)) (u ms raised) (h ms (s .counts)) (h ms raised) i (size ms) (s .pivot) (s .shared) same (k .at) (under ms raised) more (leb-false i (s .pivot) e))
+      -- and the old pivot's share was counted
+      pub insert-lost : h ms raised (s .pivot) ≤ s .shared
+      insert-lost = omega (arith, same-out (s .pivot), count-next (h ms (s .counts)) (s .pivot), k .at .shared)
+
+      insert-other-slid : Slid ms (insertOther ms i raised s)
+      unfolding insertOther pick
+      insert-other-slid = go (leb i (s .pivot)) refl
+        where
+          go : (b : Bool) → leb i (s .pivot) ≡ b → Slid ms
+              (pick b (record {
+                counts = raised;
+                pivot = before (inUnion ms raised) (s .pivot);
+                shared = s .shared - pick (isShared ms raised (s .pivot)) 1 0;
+              })
+              (record { counts = raised; pivot = s .pivot; shared = s .shared }))
+          go true e =
+              let low = leb-true i (s .pivot) e in
+              let prev =
+              last-same (set-of (inUnion ms raised)) (u ms raised) (s .pivot) (before (inUnion ms raised) (s .pivot)) (λ j. sym (union-bit ms raised j))
+              (before-last (inUnion ms raised) (s .pivot) (insert-some low)) in
+              rw (shared-bit ms raised (s .pivot), same-out (s .pivot))
+              (slid-of ms raised (before (inUnion ms raised) (s .pivot)) (s .shared - h ms (s .counts) (s .pivot)) raised-lens
+              (down (u ms (s .counts)) (u ms raised) (h ms (s .counts)) (h ms raised) i (size ms) (s .pivot) (s .shared) same-out (k .at) (under ms raised) more-out (apart low)
+              (before (inUnion ms raised) (s .pivot)) prev))
+          go false e =
+              slid-of ms raised (s .pivot) (s .shared) raised-lens
+              (above-in (u ms (s .counts)) (u ms raised) (h ms (s .counts)) (h ms raised) i (size ms) (s .pivot) (s .shared) same-out (k .at) (under ms raised) more-out (leb-false i (s .pivot) e))
 
   pub insert-slid : Slid ms (insertRef ms i s)
-  unfolding insertRef pick raised
+  unfolding insertRef pick
   insert-slid = go (isActive (s .counts) i) refl (inQuery ms i) refl
     where
       go : (b : Bool) → isActive (s .counts) i ≡ b → (c : Bool) → inQuery ms i ≡ c → Slid ms
@@ -308,20 +315,17 @@ module _ (ms : List Bool) (s : Slide) (k : Slid ms s) (i : ℕ) (l : i < length 
       (counts-either (inQuery ms i) _ _ (set (s .counts) i (getD (s .counts) i 0 + 1)) refl
       (counts-either (leb i (s .pivot)) _ _ (set (s .counts) i (getD (s .counts) i 0 + 1)) refl refl))
 
-  lowered : List ℕ
+  abbrev lowered : List ℕ
   lowered = set (s .counts) i (getD (s .counts) i 0 - 1)
 
   lowered-lens : length lowered ≡ length ms
-  unfolding lowered
   lowered-lens = length-set (s .counts) i (getD (s .counts) i 0 - 1) ∙ k .lens
 
   lowered-here : getD lowered i 0 ≡ getD (s .counts) i 0 - 1
-  unfolding lowered
   lowered-here = getD-set-same (s .counts) i (getD (s .counts) i 0 - 1) 0 in-counts
 
   module _ (some : 0 < getD (s .counts) i 0) (gone : getD lowered i 0 ≡ 0) where
     down-one : Bump (has lowered) (has (s .counts)) i
-    unfolding lowered
     down-one = lower (s .counts) i (getD (s .counts) i 0 - 1) in-counts some (sym lowered-here ∙ gone)
 
     off′ : has lowered i ≡ 0
@@ -346,50 +350,53 @@ module _ (ms : List Bool) (s : Slide) (k : Slid ms s) (i : ℕ) (l : i < length 
             (slid-of ms lowered (s .pivot) (s .shared) lowered-lens
             (shared-kept-less (u ms (s .counts)) (u ms lowered) (h ms (s .counts)) (h ms lowered) i (size ms) (s .pivot) (s .shared) same (k .at) less (leb-false i (s .pivot) e)))
 
-    delete-other-slid : inQuery ms i ≡ false → Slid ms (deleteOther ms i lowered s)
-    unfolding deleteOther pick size
-    delete-other-slid y = go (leb i (s .pivot)) refl
-      where
-        less : Bump (u ms lowered) (u ms (s .counts)) i
-        less = out-query-union (mark ms) (has lowered) (has (s .counts)) i off′ down-one (mark-false ms i y)
+    -- a hash outside the query goes: the union has one number less, and the shared ones stay
+    module _ (y : inQuery ms i ≡ false) where
+      less-out : Bump (u ms lowered) (u ms (s .counts)) i
+      less-out = out-query-union (mark ms) (has lowered) (has (s .counts)) i off′ down-one (mark-false ms i y)
 
-        same : Same (h ms (s .counts)) (h ms lowered)
-        same j = sym (out-query-meet (mark ms) (has lowered) (has (s .counts)) i off′ down-one (mark-false ms i y) j)
+      still-out : Same (h ms (s .counts)) (h ms lowered)
+      still-out j = sym (out-query-meet (mark ms) (has lowered) (has (s .counts)) i off′ down-one (mark-false ms i y) j)
 
-        bits : Same (set-of (inUnion ms lowered)) (u ms lowered)
-        bits j = sym (union-bit ms lowered j)
+      -- past the coordinates the union is empty
+      beyond : (j : ℕ) → length lowered ≤ j → u ms lowered j ≡ 0
+      beyond j m = omega (arith, mark-past ms j (omega (arith, lowered-lens)), has-past lowered j m)
 
-        next : ℕ
-        next = after (inUnion ms lowered) (s .pivot) (length lowered)
+      -- the Rust's `expect`: the pivot has a successor
+      pub delete-some : i ≤ s .pivot → ((j : ℕ) → s .pivot + 1 ≤ j → j < length lowered → set-of (inUnion ms lowered) j ≡ 0) → ⊥
+      unfolding size
+      delete-some low none =
+          up-some (u ms (s .counts)) (u ms lowered) (h ms (s .counts)) (h ms lowered) i (size ms) (s .pivot) (s .shared) still-out (k .at) (under ms lowered) less-out low
+          (mark ms) (length ms) (λ j. omega arith) (pivot-in ms s k) refl
+          (λ j m. ⊎-elim (λ (x : j < length lowered). sym (union-bit ms lowered j) ∙ none j m x) (λ (x : length lowered ≤ j). beyond j x) (lt-or-ge j (length lowered)))
 
-        -- past the coordinates the union is empty
-        beyond : (j : ℕ) → length lowered ≤ j → u ms lowered j ≡ 0
-        beyond j m = omega (arith, mark-past ms j (omega (arith, lowered-lens)), has-past lowered j m)
+      delete-other-slid : Slid ms (deleteOther ms i lowered s)
+      unfolding deleteOther pick
+      delete-other-slid = go (leb i (s .pivot)) refl
+        where
+          next : ℕ
+          next = after (inUnion ms lowered) (s .pivot) (length lowered)
 
-        go : (b : Bool) → leb i (s .pivot) ≡ b → Slid ms
-            (pick b (record { counts = lowered; pivot = next; shared = s .shared + pick (isShared ms lowered next) 1 0 })
-            (record { counts = lowered; pivot = s .pivot; shared = s .shared }))
-        go true e =
-            let at-or-below = leb-true i (s .pivot) e in
-            let found : (((j : ℕ) → s .pivot + 1 ≤ j → j < length lowered → set-of (inUnion ms lowered) j ≡ 0) → ⊥) =
-            λ none. up-some (u ms (s .counts)) (u ms lowered) (h ms (s .counts)) (h ms lowered) i (size ms) (s .pivot) (s .shared) same (k .at) (under ms lowered) less at-or-below
-            (mark ms) (length ms) (λ j. omega arith) (pivot-in ms s k) refl
-            (λ j m. ⊎-elim (λ (x : j < length lowered). bits j ∙ none j m x) (λ (x : length lowered ≤ j). beyond j x) (lt-or-ge j (length lowered))) in
-            let first =
-            first-same (set-of (inUnion ms lowered)) (u ms lowered) (s .pivot + 1) next bits
-            (after-first (inUnion ms lowered) (s .pivot) (length lowered) (omega (arith, pivot-in ms s k, lowered-lens)) found) in
-            rw (shared-bit ms lowered next)
-            (slid-of ms lowered next (s .shared + h ms lowered next) lowered-lens
-            (up (u ms (s .counts)) (u ms lowered) (h ms (s .counts)) (h ms lowered) i (size ms) (s .pivot) (s .shared) same (k .at) (under ms lowered) less at-or-below next first))
-        go false e =
-            slid-of ms lowered (s .pivot) (s .shared) lowered-lens
-            (above-out (u ms (s .counts)) (u ms lowered) (h ms (s .counts)) (h ms lowered) i (size ms) (s .pivot) (s .shared) same (k .at) (under ms lowered) less (leb-false i (s .pivot) e))
+          go : (b : Bool) → leb i (s .pivot) ≡ b → Slid ms
+              (pick b (record { counts = lowered; pivot = next; shared = s .shared + pick (isShared ms lowered next) 1 0 })
+              (record { counts = lowered; pivot = s .pivot; shared = s .shared }))
+          go true e =
+              let low = leb-true i (s .pivot) e in
+              let first =
+              first-same (set-of (inUnion ms lowered)) (u ms lowered) (s .pivot + 1) next (λ j. sym (union-bit ms lowered j))
+              (after-first (inUnion ms lowered) (s .pivot) (length lowered) (omega (arith, pivot-in ms s k, lowered-lens)) (delete-some low)) in
+              rw (shared-bit ms lowered next)
+              (slid-of ms lowered next (s .shared + h ms lowered next) lowered-lens
+              (up (u ms (s .counts)) (u ms lowered) (h ms (s .counts)) (h ms lowered) i (size ms) (s .pivot) (s .shared) still-out (k .at) (under ms lowered) less-out low next first))
+          go false e =
+              slid-of ms lowered (s .pivot) (s .shared) lowered-lens
+              (above-out (u ms (s .counts)) (u ms lowered) (h ms (s .counts)) (h ms lowered) i (size ms) (s .pivot) (s .shared) still-out (k .at) (under ms lowered) less-out (leb-false i (s .pivot) e))
 
   positive : eqb (getD (s .counts) i 0) 0 ≡ false → 0 < getD (s .counts) i 0
   positive e = omega (arith, eqb-false (getD (s .counts) i 0) 0 e)
 
   pub delete-slid : Slid ms (deleteRef ms i s)
-  unfolding deleteRef pick lowered
+  unfolding deleteRef pick
   delete-slid = go (eqb (getD (s .counts) i 0) 0) refl (isActive lowered i) refl (inQuery ms i) refl
     where
       go : (a : Bool) → eqb (getD (s .counts) i 0) 0 ≡ a → (b : Bool) → isActive lowered i ≡ b → (c : Bool) → inQuery ms i ≡ c → Slid ms
