@@ -14,7 +14,10 @@ use borrow.Author.Tests.{lt-ltb, eqb-true, eqb-false}
 use Rattle.base.specs.Pick.{pick}
 use Rattle.rules.specs.Lists.{count}
 use Rattle.rules.specs.Minimizer.{Item, Stop, position, below, toBegin, toEnd, firstStop, nextStop, moves}
-use Rattle.rules.proofs.MinimizerPositions.{lt-or-ge, Climbing, NeverDown, climbing-down, under, under-le, under-mono, under-least, under-above, under-after}
+use Rattle.base.specs.Lists.{StrictAsc}
+use Rattle.base.proofs.Order.{lt-or-ge}
+use Rattle.base.proofs.Lists.{strict-asc}
+use Rattle.rules.proofs.MinimizerPositions.{under, under-le, under-mono, under-least, under-above, under-after}
 
 abbrev pub positions : List Item → List ℕ
 positions items = map (λ (x : Item). x .at) items
@@ -30,16 +33,16 @@ below-le q items = omega (arith, below-is q items, under-le q (positions items),
 pub below-mono : (q r : ℕ) (items : List Item) → q ≤ r → below q items ≤ below r items
 below-mono q r items l = omega (arith, below-is q items, below-is r items, under-mono q r (positions items) l)
 
-module _ (items : List Item) (up : Climbing (positions items)) where
+module _ (items : List Item) (up : StrictAsc (positions items)) where
   below-least : (q i : ℕ) → i < length items → q ≤ position items i → below q items ≤ i
   unfolding position
-  below-least q i l h = rw (below-is q items) (under-least q i (positions items) (climbing-down (positions items) up) (rw length-map l) h)
+  below-least q i l h = rw (below-is q items) (under-least q i (positions items) (strict-asc (positions items) up) (rw length-map l) h)
 
   -- an item that is not counted lies at q or beyond
   beyond : (q i : ℕ) → i < length items → below q items ≤ i → q ≤ position items i
   unfolding position
   beyond q i l h =
-      ⊎-elim (λ (a : position items i < q). absurd (omega (arith, below-is q items, under-above q i (positions items) (climbing-down (positions items) up) (rw length-map l) a)))
+      ⊎-elim (λ (a : position items i < q). absurd (omega (arith, below-is q items, under-above q i (positions items) (strict-asc (positions items) up) (rw length-map l) a)))
       (λ a. a) (lt-or-ge (position items i) q)
 
   pub below-after : (i : ℕ) → i < length items → below (position items i + 1) items ≡ i + 1
@@ -79,7 +82,7 @@ at-length items w t a = omega (arith, a .end, below-le (t .p + w) items)
 pub at-some : (items : List Item) (w : ℕ) (t : Stop) → 0 < w → At items w t → t .b < t .e
 at-some items w t h a = omega (arith, a .begin, a .end, below-mono (t .p + 1) (t .p + w) items (omega arith))
 
-module _ (items : List Item) (up : Climbing (positions items)) (w : ℕ) (some : 0 < w) where
+module _ (items : List Item) (up : StrictAsc (positions items)) (w : ℕ) (some : 0 < w) where
   pub at-first : 0 < length items → At items w (firstStop w items)
   unfolding firstStop
   at-first h = record { begin = below-after items up 0 h; end = refl }
