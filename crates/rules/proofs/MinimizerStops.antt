@@ -10,7 +10,7 @@ use native.Mathlib.Omega.{arith}
 use native.Mathlib.Nat.{add-zero}
 use lib.ListN.{length, getD, length-map}
 use lib.Dec.{ltb, eqb}
-use borrow.Author.Tests.{lt-ltb, eqb-true, eqb-false}
+use borrow.Author.Tests.{lt-ltb, eq-eqb, eqb-true, eqb-false}
 use Rattle.base.specs.Pick.{pick}
 use Rattle.rules.specs.Lists.{count}
 use Rattle.rules.specs.Minimizer.{Item, Stop, position, below, toBegin, toEnd, firstStop, nextStop, moves}
@@ -78,6 +78,14 @@ moved t q = record { b = t .b; e = t .e; p = q }
 pub at-length : (items : List Item) (w : ℕ) (t : Stop) → At items w t → t .e ≤ length items
 at-length items w t a = omega (arith, a .end, below-le (t .p + w) items)
 
+-- the nearer of the two items is passed, so a sweep has no more stops than twice the items
+pub next-further : (w : ℕ) (items : List Item) (t : Stop) → t .b + t .e < nextStop w items t .b + nextStop w items t .e
+unfolding nextStop pick
+next-further w items t =
+    let f = toBegin items t in
+    let g = toEnd w items t in
+    ⊎-elim (λ (l : f < g). rw (eq-eqb (min f g) f (omega arith)) (omega arith)) (λ (l : g ≤ f). rw (eq-eqb (min f g) g (omega arith)) (omega arith)) (lt-or-ge f g)
+
 -- the active items are never none
 pub at-some : (items : List Item) (w : ℕ) (t : Stop) → 0 < w → At items w t → t .b < t .e
 at-some items w t h a = omega (arith, a .begin, a .end, below-mono (t .p + 1) (t .p + w) items (omega arith))
@@ -98,6 +106,10 @@ module _ (items : List Item) (up : StrictAsc (positions items)) (w : ℕ) (some 
     pub at-moves : moves w items t ≡ true
     unfolding moves toBegin toEnd
     at-moves = lt-ltb 0 (min (toBegin items t) (toEnd w items t)) (omega (arith, next-begin, next-end))
+
+    pub at-ahead : t .p < nextStop w items t .p
+    unfolding nextStop toBegin toEnd
+    at-ahead = omega (arith, next-begin, next-end)
 
     -- the active items are constant up to the next stop
     pub at-still : (q : ℕ) → t .p ≤ q → q < nextStop w items t .p → At items w (moved t q)
