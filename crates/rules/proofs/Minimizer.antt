@@ -17,8 +17,8 @@ use Rattle.rules.specs.Place.{minimizerFrom, minimizerAnswer, minimizerB
 use Rattle.rules.specs.Refusals.{orderOf}
 use Rattle.rules.specs.Calls.{minimizerPremises}
 use Rattle.rules.proofs.Sweep.{Runs, join, runs-best, run-up}
-use Rattle.rules.proofs.MinimizerPositions.{order-strict}
-use Rattle.rules.proofs.MinimizerStops.{positions, At, moved}
+use Rattle.rules.proofs.MinimizerPositions.{order-strict, positions}
+use Rattle.rules.proofs.MinimizerStops.{At, moved}
 use Rattle.rules.proofs.MinimizerStarts.{Covered, none, stop, stops-cover}
 
 map-append : (f : ℕ → Scored) (xs ys : List ℕ) → map f (xs ++ ys) ≡ map f xs ++ map f ys

@@ -1,14 +1,13 @@
 -- How many positions lie below a number: in a list that never descends, position i is one of them exactly when i is less than their count.
 -- Assumes nothing.
 use Prim.Native.Nat.{ℕ, zero, suc, _+_, _≤_, _<_}
-use mathlib.Core.Path.{_≡_, refl}
+use mathlib.Core.Path.{_≡_, refl, ap}
 use mathlib.Core.Logic.{_⊎_, inl, inr, ⊎-elim}
 use mathlib.Core.Bool.{Bool, true, false}
-use mathlib.Core.List.{List, [], _∷_}
+use mathlib.Core.List.{List, [], _∷_, map}
 use native.Mathlib.Omega.{arith}
-use native.Mathlib.Nat.{zero-add}
 use native.Mathlib.Numerals.{add-one}
-use lib.ListN.{length, getD}
+use lib.ListN.{length, getD, length-map}
 use lib.Dec.{ltb, leb}
 use borrow.Author.Tests.{ltb-true, leb-true, lt-ltb, le-ltb}
 use Rattle.base.specs.Pick.{pick}
@@ -16,6 +15,7 @@ use Rattle.base.specs.Lists.{Asc, StrictAsc}
 use Rattle.base.proofs.Order.{lt-or-ge}
 use Rattle.base.proofs.Lists.{asc-at, asc-steps, strict-at, strict-asc, strict-steps}
 use Rattle.rules.specs.Lists.{count}
+use Rattle.rules.specs.Minimizer.{Item, position, below}
 use Rattle.rules.specs.Refusals.{orderFrom, orderOf}
 
 -- ---- order
@@ -59,9 +59,9 @@ unfolding count
 under-none q = refl
 
 -- the first is below q and counts, or is not and does not
-under-step : (q x : ℕ) (xs : List ℕ) → ((x < q) × (under q (x ∷ xs) ≡ 1 + under q xs)) ⊎ ((q ≤ x) × (under q (x ∷ xs) ≡ under q xs))
+under-step : (q x : ℕ) (xs : List ℕ) → ((x < q) × (under q (x ∷ xs) ≡ suc (under q xs))) ⊎ ((q ≤ x) × (under q (x ∷ xs) ≡ under q xs))
 unfolding count pick
-under-step q x xs = ⊎-elim (λ h. inl (h, simp (lt-ltb x q h))) (λ h. inr (h, simp (le-ltb x q h, zero-add))) (lt-or-ge x q)
+under-step q x xs = ⊎-elim (λ h. inl (h, rw (lt-ltb x q h) (omega arith))) (λ h. inr (h, rw (le-ltb x q h) (omega arith))) (lt-or-ge x q)
 
 pub under-le : (q : ℕ) (ps : List ℕ) → under q ps ≤ length ps
 under-le q [] = omega (arith, under-none q)
@@ -104,3 +104,42 @@ under-after i ps s l =
     let c = under-above q i ps a l (omega arith) in
     ⊎-elim (λ (m : suc i < length ps). omega (arith, under-least q (suc i) ps a m (omega (arith, strict-at ps s i (suc i) (omega arith) m))))
     (λ m. omega (arith, under-le q ps)) (lt-or-ge (suc i) (length ps))
+
+-- ---- the same of items, by their positions
+
+abbrev pub positions : List Item → List ℕ
+positions items = map (λ (x : Item). x .at) items
+
+pub below-is : (q : ℕ) (items : List Item) → below q items ≡ under q (positions items)
+unfolding below count
+below-is q [] = refl
+below-is q (x ∷ xs) = ap (λ (n : ℕ). pick (ltb (x .at) q) 1 0 + n) (below-is q xs)
+
+pub below-none : (q : ℕ) → below q [] ≡ 0
+unfolding below count
+below-none q = refl
+
+pub below-step : (q : ℕ) (x : Item) (xs : List Item) → ((x .at < q) × (below q (x ∷ xs) ≡ suc (below q xs))) ⊎ ((q ≤ x .at) × (below q (x ∷ xs) ≡ below q xs))
+below-step q x xs = rw (below-is q (x ∷ xs), below-is q xs) (under-step q (x .at) (positions xs))
+
+length-positions : (items : List Item) → length (positions items) ≡ length items
+length-positions items = length-map items (λ (x : Item). x .at)
+
+pub below-le : (q : ℕ) (items : List Item) → below q items ≤ length items
+below-le q items = omega (arith, below-is q items, under-le q (positions items), length-positions items)
+
+pub below-mono : (q r : ℕ) (items : List Item) → q ≤ r → below q items ≤ below r items
+below-mono q r items l = omega (arith, below-is q items, below-is r items, under-mono q r (positions items) l)
+
+module _ (items : List Item) (asc : Asc (positions items)) (q i : ℕ) (l : i < length items) where
+  pub below-least : q ≤ position items i → below q items ≤ i
+  unfolding position
+  below-least h = rw (below-is q items) (under-least q i (positions items) asc (rw length-map l) h)
+
+  pub below-above : position items i < q → i < below q items
+  unfolding position
+  below-above h = rw (below-is q items) (under-above q i (positions items) asc (rw length-map l) h)
+
+pub below-after : (i : ℕ) (items : List Item) → StrictAsc (positions items) → i < length items → below (position items i + 1) items ≡ i + 1
+unfolding position
+below-after i items up l = rw below-is (under-after i (positions items) up (rw length-map l))

@@ -17,7 +17,8 @@ use Rattle.base.proofs.Order.{lt-or-ge}
 use Rattle.rules.specs.Lists.{filter, upFrom}
 use Rattle.rules.specs.Sweep.{Sweep}
 use Rattle.rules.specs.Minimizer.{Item, Stop, windowsPerStart, localItems, below, firstStop, goesOn, nextStop, moves, stopsFrom, stops, admitted}
-use Rattle.rules.proofs.MinimizerStops.{positions, below-mono, At, moved, at-length, at-some, at-first, next-further, at-moves, at-ahead, at-still, at-next}
+use Rattle.rules.proofs.MinimizerPositions.{positions, below-mono}
+use Rattle.rules.proofs.MinimizerStops.{At, moved, at-length, at-some, at-first, next-further, at-moves, at-ahead, at-still, at-next}
 
 -- for each stop its start and the n numbers after it, at which the active items are the stop's
 pub data Covered (items : List Item) (w : ℕ) : List Stop → List ℕ → Type 0 where

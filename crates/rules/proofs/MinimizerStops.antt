@@ -17,43 +17,20 @@ use Rattle.rules.specs.Minimizer.{Item, Stop, position, below, toBegin, 
 use Rattle.base.specs.Lists.{StrictAsc}
 use Rattle.base.proofs.Order.{lt-or-ge}
 use Rattle.base.proofs.Lists.{strict-asc}
-use Rattle.rules.proofs.MinimizerPositions.{under, under-le, under-mono, under-least, under-above, under-after}
-
-abbrev pub positions : List Item → List ℕ
-positions items = map (λ (x : Item). x .at) items
-
-pub below-is : (q : ℕ) (items : List Item) → below q items ≡ under q (positions items)
-unfolding below count
-below-is q [] = refl
-below-is q (x ∷ xs) = ap (λ (n : ℕ). pick (ltb (x .at) q) 1 0 + n) (below-is q xs)
-
-pub below-le : (q : ℕ) (items : List Item) → below q items ≤ length items
-below-le q items = omega (arith, below-is q items, under-le q (positions items), length-map items (λ (x : Item). x .at))
-
-pub below-mono : (q r : ℕ) (items : List Item) → q ≤ r → below q items ≤ below r items
-below-mono q r items l = omega (arith, below-is q items, below-is r items, under-mono q r (positions items) l)
+use Rattle.rules.proofs.MinimizerPositions.{positions, below-le, below-mono, below-least, below-above, below-after}
 
 module _ (items : List Item) (up : StrictAsc (positions items)) where
-  below-least : (q i : ℕ) → i < length items → q ≤ position items i → below q items ≤ i
-  unfolding position
-  below-least q i l h = rw (below-is q items) (under-least q i (positions items) (strict-asc (positions items) up) (rw length-map l) h)
-
   -- an item that is not counted lies at q or beyond
   beyond : (q i : ℕ) → i < length items → below q items ≤ i → q ≤ position items i
-  unfolding position
   beyond q i l h =
-      ⊎-elim (λ (a : position items i < q). absurd (omega (arith, below-is q items, under-above q i (positions items) (strict-asc (positions items) up) (rw length-map l) a)))
-      (λ a. a) (lt-or-ge (position items i) q)
-
-  pub below-after : (i : ℕ) → i < length items → below (position items i + 1) items ≡ i + 1
-  unfolding position
-  below-after i l = rw below-is (under-after i (positions items) up (rw length-map l))
+      ⊎-elim (λ (c : position items i < q). absurd (omega (arith, below-above items (strict-asc (positions items) up) q i l c))) (λ c. c)
+      (lt-or-ge (position items i) q)
 
   -- as long as item i is not passed
   still : (q r i : ℕ) → below q items ≡ i → q ≤ r → (i < length items → r ≤ position items i) → below r items ≡ i
   still q r i e l h =
       let m = below-mono q r items l in
-      ⊎-elim (λ (a : i < length items). omega (arith, below-least r i a (h a))) (λ a. omega (arith, below-le r items)) (lt-or-ge i (length items))
+      ⊎-elim (λ (a : i < length items). omega (arith, below-least items (strict-asc (positions items) up) r i a (h a))) (λ a. omega (arith, below-le r items)) (lt-or-ge i (length items))
 
   -- d on from q, item i being t on at most: it is taken in exactly when d is all of t
   advance : (q i d t r : ℕ) → i < length items → below q items ≡ i → q + t ≡ position items i + 1 → d ≤ t → r ≡ q + d → below r items ≡ i + pick (eqb d t) 1 0
@@ -63,7 +40,7 @@ module _ (items : List Item) (up : StrictAsc (positions items)) where
       go : (u : Bool) → eqb d t ≡ u → below r items ≡ i + pick u 1 0
       go true u =
           let z : r ≡ position items i + 1 = omega (arith, eqb-true d t u) in
-          rw z (below-after i l)
+          rw z (below-after i items up l)
       go false u = rw add-zero (still q r i e (omega arith) λ _. omega (arith, far, eqb-false d t u))
 
 -- b is the last item at or before p, e counts the items below p + w
@@ -93,7 +70,7 @@ at-some items w t h a = omega (arith, a .begin, a .end, below-mono (t .p + 1) (t
 module _ (items : List Item) (up : StrictAsc (positions items)) (w : ℕ) (some : 0 < w) where
   pub at-first : 0 < length items → At items w (firstStop w items)
   unfolding firstStop
-  at-first h = record { begin = below-after items up 0 h; end = refl }
+  at-first h = record { begin = below-after 0 items up h; end = refl }
 
   module _ (t : Stop) (a : At items w t) (inside : t .e < length items) where
     next-begin : t .p + 1 ≤ position items (t .b + 1)
