@@ -6,6 +6,7 @@ use mathlib.Core.List.{List, [], _∷_}
 use lib.ListN.{length}
 use lib.Dec.{ltb, leb, eqb}
 use Rattle.base.specs.Pick.{pick}
+use Rattle.base.specs.OrderChecks.{orderOf}
 use Rattle.base.specs.declared.Verdict.{Verdict}
 use Rattle.base.specs.declared.Verdict.the-variants.{Fine, No}
 use Rattle.rules.specs.Lists.{member, sum}
@@ -19,15 +20,6 @@ refuse number place = No (record { number = number; place = place })
 unfoldable pub orElse : Verdict → Verdict → Verdict
 orElse Fine w = w
 orElse (No r) w = No r
-
--- the index of the first element that is not `ok` after the one before it (of two neighbours the later), or the length; the head stands at i, after p
-unfoldable pub orderFrom : (ℕ → ℕ → Bool) → ℕ → ℕ → List ℕ → ℕ
-orderFrom ok i p [] = i
-orderFrom ok i p (x ∷ xs) = pick (ok p x) (orderFrom ok (i + 1) x xs) i
-
-unfoldable pub orderOf : (ℕ → ℕ → Bool) → List ℕ → ℕ
-orderOf ok [] = 0
-orderOf ok (x ∷ xs) = orderFrom ok 1 x xs
 
 -- ceil(n/64)
 abbrev pub ceil64 : ℕ → ℕ
