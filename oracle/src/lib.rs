@@ -37,6 +37,11 @@ mod mapper_with_pivot;
 
 pub mod call;
 pub mod case;
+pub mod diff;
 pub mod examples;
+pub mod exhaust;
+pub mod generate;
 pub mod model;
 pub mod original;
+pub mod random;
+pub mod shrink;
