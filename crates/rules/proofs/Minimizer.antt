@@ -2,28 +2,26 @@
 -- Starts with the same active items score and record the same, so the scored starts are the scored stops repeated, and repeats leave the best unchanged.
 -- Assumes nothing.
 use Prim.Native.Nat.{ℕ, suc, _+_, _-_, _<_}
-use mathlib.Core.Path.{_≡_, refl, sym, ap}
+use mathlib.Core.Path.{_≡_, refl, sym}
 use mathlib.Core.Bool.{Bool, true, false, _&&_, false≢true}
-use mathlib.Core.List.{List, [], _∷_, _++_, map}
+use mathlib.Core.List.{List, map, map-append}
 use native.Mathlib.Omega.{arith}
 use lib.ListN.{length}
 use lib.Dec.{ltb, eqb}
-use borrow.Author.Tests.{ltb-true, eqb-true}
+use borrow.Author.Tests.{lt-ltb, eq-eqb, ltb-true, eqb-true}
 use Rattle.base.specs.Lists.{StrictAsc}
+use Rattle.base.specs.OrderChecks.{orderOf}
+use Rattle.base.proofs.OrderChecks.{order-strict, strict-order}
 use Rattle.rules.specs.Lists.{upFrom}
-use Rattle.rules.specs.Sweep.{Sweep, Scored, best}
+use Rattle.rules.specs.Sweep.{Sweep, best}
 use Rattle.rules.specs.Minimizer.{Stop, windowsPerStart, localItems, position, below, scoredStop, scoredStops, scoredStart, scoredStarts}
 use Rattle.rules.specs.Place.{minimizerFrom, minimizerAnswer, minimizerByScoring}
-use Rattle.rules.specs.Refusals.{orderOf}
 use Rattle.rules.specs.Calls.{minimizerPremises}
 use Rattle.rules.proofs.Sweep.{Runs, join, runs-best, run-up}
-use Rattle.rules.proofs.MinimizerPositions.{order-strict, positions}
+use Rattle.rules.proofs.MinimizerPositions.{positions}
+use Rattle.rules.proofs.MinimizerLocal.{strict-local}
 use Rattle.rules.proofs.MinimizerStops.{At, moved}
 use Rattle.rules.proofs.MinimizerStarts.{Covered, none, stop, stops-cover}
-
-map-append : (f : ℕ → Scored) (xs ys : List ℕ) → map f (xs ++ ys) ≡ map f xs ++ map f ys
-map-append f [] ys = refl
-map-append f (x ∷ xs) ys = ap (λ (zs : List Scored). f x ∷ zs) (map-append f xs ys)
 
 module _ (s : Sweep) where
   scored-at : (t : Stop) (q : ℕ) → At (localItems s) (windowsPerStart s) (moved t q) → scoredStart s q ≡ scoredStop (s .query) (localItems s) t
@@ -61,4 +59,11 @@ minimizer-demand-3 s h =
     let rises = eqb (orderOf ltb ps) (length ps) in
     let wide = ltb 0 (windowsPerStart s) in
     let both = and-true rises wide (and-true (rises && wide) (ltb 0 (length (s .query))) h .0) in
-    answer-by-steps s (order-strict ps (eqb-true (orderOf ltb ps) (length ps) (both .0))) (ltb-true 0 (windowsPerStart s) (both .1))
+    answer-by-steps s (order-strict ps (omega (arith, eqb-true (orderOf ltb ps) (length ps) (both .0)))) (ltb-true 0 (windowsPerStart s) (both .1))
+
+-- the premises hold where the positions handed in ascend strictly and W and k are at least 1
+pub premises-hold : (s : Sweep) → length (s .hashes) ≡ length (s .starts) → StrictAsc (s .starts) → 0 < windowsPerStart s → 0 < length (s .query) → minimizerPremises s ≡ true
+unfolding minimizerPremises
+premises-hold s same up some query =
+    let ps = positions (localItems s) in
+    rw (eq-eqb (orderOf ltb ps) (length ps) (strict-order ps (strict-local s same up)), lt-ltb 0 (windowsPerStart s) some, lt-ltb 0 (length (s .query)) query)

@@ -2,17 +2,18 @@
 -- below range end + length. So the code may take them as two parts of the hashes and the positions.
 -- Assumes nothing.
 use Prim.Native.Nat.{ℕ, zero, suc, _+_, _-_, _≤_, _<_}
-use mathlib.Core.Path.{_≡_, refl, sym, ap, _∙_}
+use mathlib.Core.Path.{_≡_, refl, ap, _∙_}
 use mathlib.Core.Logic.{⊎-elim}
-use mathlib.Core.Bool.{Bool, true, false, _&&_}
-use mathlib.Core.List.{List, [], _∷_, _++_, map}
+use mathlib.Core.Bool.{Bool, _&&_}
+use mathlib.Core.List.{List, [], _∷_, map}
 use native.Mathlib.Omega.{arith}
-use lib.ListN.{length, take, drop, length-take, length-drop, length-map}
+use lib.Seq.{getD-take, getD-drop}
+use lib.ListN.{length, getD, take, drop, length-take, length-drop, length-map}
 use lib.Dec.{ltb, leb}
 use borrow.Author.Tests.{lt-ltb, le-ltb, le-leb, lt-leb}
 use Rattle.base.specs.Pick.{pick}
-use Rattle.base.specs.Lists.{Asc}
-use Rattle.base.proofs.Order.{lt-or-ge}
+use Rattle.base.specs.Lists.{Asc, StrictAsc}
+use Rattle.base.proofs.Lists.{strict-at, strict-asc, strict-steps}
 use Rattle.rules.specs.Lists.{filter}
 use Rattle.rules.specs.Sweep.{Sweep}
 use Rattle.rules.specs.Minimizer.{Item, itemsOf, isLocal, localItems, position, part, below}
@@ -65,6 +66,11 @@ map-drop f zero items = refl
 map-drop f (suc n) [] = refl
 map-drop f (suc n) (x ∷ xs) = map-drop f n xs
 
+-- the hashes, or the positions, of a part
+pub map-part : (f : Item → ℕ) (items : List Item) (b e : ℕ) → map f (part items b e) ≡ take (e - b) (drop b (map f items))
+unfolding part
+map-part f items b e = rw (map-take, map-drop)
+
 -- where the local items begin and end among those handed in
 abbrev pub localFrom : Sweep → ℕ
 localFrom s = under (s .range .start) (s .starts)
@@ -83,8 +89,7 @@ module _ (s : Sweep) (same : length (s .hashes) ≡ length (s .starts)) (asc : A
       (part-between (s .range .start) (s .range .end + s .settings .length) (itemsOf (s .hashes) (s .starts)) (rw (items-positions (s .hashes) (s .starts) same) asc))
 
   mapped : (f : Item → ℕ) → map f (localItems s) ≡ take (localTo s - localFrom s) (drop (localFrom s) (map f (itemsOf (s .hashes) (s .starts))))
-  unfolding part
-  mapped f = rw (local-part, map-take, map-drop)
+  mapped f = rw local-part (map-part f (itemsOf (s .hashes) (s .starts)) (localFrom s) (localTo s))
 
   pub local-positions : positions (localItems s) ≡ take (localTo s - localFrom s) (drop (localFrom s) (s .starts))
   local-positions = mapped (λ x. x .at) ∙ rw items-positions
@@ -95,3 +100,27 @@ module _ (s : Sweep) (same : length (s .hashes) ≡ length (s .starts)) (asc : A
   pub local-length : length (localItems s) ≡ localTo s - localFrom s
   local-length =
       omega (arith, length-map (localItems s) (λ (x : Item). x .at), simp (length-take, length-drop) at (ap length local-positions), under-le (s .range .end + s .settings .length) (s .starts))
+
+  -- one by one, where the code reads them
+  pub local-position : (i : ℕ) → i < length (localItems s) → position (localItems s) i ≡ getD (s .starts) (localFrom s + i) 0
+  unfolding position
+  local-position i l =
+      let h : i < localTo s - localFrom s = omega (arith, local-length) in
+      rw (local-positions, getD-take, getD-drop)
+
+  pub local-hash : (i : ℕ) → i < length (localItems s) → getD (map (λ (x : Item). x .hash) (localItems s)) i 0 ≡ getD (s .hashes) (localFrom s + i) 0
+  local-hash i l =
+      let h : i < localTo s - localFrom s = omega (arith, local-length) in
+      rw (local-hashes, getD-take, getD-drop)
+
+-- the local positions ascend strictly where those handed in do
+pub strict-local : (s : Sweep) → length (s .hashes) ≡ length (s .starts) → StrictAsc (s .starts) → StrictAsc (positions (localItems s))
+unfolding position
+strict-local s same up =
+    let asc = strict-asc (s .starts) up in
+    strict-steps (positions (localItems s)) λ i l.
+    let n = length-map (localItems s) (λ (x : Item). x .at) in
+    let h = local-length s same asc in
+    let a = local-position s same asc i (omega arith) in
+    let b = local-position s same asc (i + 1) (omega arith) in
+    omega (arith, strict-at (s .starts) up (localFrom s + i) (localFrom s + (i + 1)) (omega arith) (omega (arith, under-le (s .range .end + s .settings .length) (s .starts))))

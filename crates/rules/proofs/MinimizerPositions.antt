@@ -1,55 +1,19 @@
 -- How many positions lie below a number: in a list that never descends, position i is one of them exactly when i is less than their count.
 -- Assumes nothing.
-use Prim.Native.Nat.{ℕ, zero, suc, _+_, _≤_, _<_}
+use Prim.Native.Nat.{ℕ, zero, suc, _+_, _-_, _≤_, _<_}
 use mathlib.Core.Path.{_≡_, refl, ap}
 use mathlib.Core.Logic.{_⊎_, inl, inr, ⊎-elim}
-use mathlib.Core.Bool.{Bool, true, false}
 use mathlib.Core.List.{List, [], _∷_, map}
 use native.Mathlib.Omega.{arith}
-use native.Mathlib.Numerals.{add-one}
 use lib.ListN.{length, getD, length-map}
-use lib.Dec.{ltb, leb}
-use borrow.Author.Tests.{ltb-true, leb-true, lt-ltb, le-ltb}
+use lib.Dec.{ltb}
+use borrow.Author.Tests.{lt-ltb, le-ltb}
 use Rattle.base.specs.Pick.{pick}
 use Rattle.base.specs.Lists.{Asc, StrictAsc}
 use Rattle.base.proofs.Order.{lt-or-ge}
-use Rattle.base.proofs.Lists.{asc-at, asc-steps, strict-at, strict-asc, strict-steps}
+use Rattle.base.proofs.Lists.{asc-at, strict-at, strict-asc}
 use Rattle.rules.specs.Lists.{count}
 use Rattle.rules.specs.Minimizer.{Item, position, below}
-use Rattle.rules.specs.Refusals.{orderFrom, orderOf}
-
--- ---- order
-
-order-step : (ok : ℕ → ℕ → Bool) (k p x : ℕ) (xs : List ℕ) → orderFrom ok k p (x ∷ xs) ≡ k + suc (length xs) → (ok p x ≡ true) × (orderFrom ok (k + 1) x xs ≡ k + 1 + length xs)
-unfolding orderFrom pick
-order-step ok k p x xs e = go (ok p x) refl
-  where
-    go : (t : Bool) → ok p x ≡ t → (ok p x ≡ true) × (orderFrom ok (k + 1) x xs ≡ k + 1 + length xs)
-    go true t =
-        let f : orderFrom ok (k + 1) x xs ≡ k + suc (length xs) = rw t at e in
-        (t, omega arith)
-    go false t =
-        let f : k ≡ k + suc (length xs) = rw t at e in
-        absurd (omega arith)
-
-order-from : (ok : ℕ → ℕ → Bool) (k p : ℕ) (xs : List ℕ) → orderFrom ok k p xs ≡ k + length xs → (i : ℕ) → i < length xs → ok (getD (p ∷ xs) i 0) (getD xs i 0) ≡ true
-order-from ok k p [] e i l = absurd (omega arith)
-order-from ok k p (x ∷ xs) e zero l = order-step ok k p x xs e .0
-order-from ok k p (x ∷ xs) e (suc i) l = order-from ok (k + 1) x xs (order-step ok k p x xs e .1) i (omega arith)
-
--- where no index is refused, each element passes after the one before it
-order-at : (ok : ℕ → ℕ → Bool) (xs : List ℕ) → orderOf ok xs ≡ length xs → (i : ℕ) → i + 1 < length xs → ok (getD xs i 0) (getD xs (i + 1) 0) ≡ true
-unfolding orderOf
-order-at ok [] e i l = absurd (omega arith)
-order-at ok (x ∷ xs) e i l = rw add-one (order-from ok 1 x xs (omega (arith, e)) i (omega arith))
-
-pub order-strict : (xs : List ℕ) → orderOf ltb xs ≡ length xs → StrictAsc xs
-order-strict xs e = strict-steps xs λ i l. ltb-true (getD xs i 0) (getD xs (i + 1) 0) (order-at ltb xs e i l)
-
-pub order-asc : (xs : List ℕ) → orderOf leb xs ≡ length xs → Asc xs
-order-asc xs e = asc-steps xs λ i l. leb-true (getD xs i 0) (getD xs (i + 1) 0) (order-at leb xs e i l)
-
--- ---- counts
 
 abbrev pub under : ℕ → List ℕ → ℕ
 under q ps = count (λ x. ltb x q) ps
@@ -139,6 +103,12 @@ module _ (items : List Item) (asc : Asc (positions items)) (q i : ℕ) (l : i < 
   pub below-above : position items i < q → i < below q items
   unfolding position
   below-above h = rw (below-is q items) (under-above q i (positions items) asc (rw length-map l) h)
+
+-- what a scan that stops at the first position not below q has found
+pub below-exact : (items : List Item) → Asc (positions items) → (q n : ℕ) → n ≤ length items → (0 < n → position items (n - 1) < q) → (n < length items → q ≤ position items n) → below q items ≡ n
+below-exact items asc q n l inside outside =
+    let least : n ≤ below q items = ⊎-elim (λ (h : 0 < n). omega (arith, below-above items asc q (n - 1) (omega arith) (inside h))) (λ h. omega arith) (lt-or-ge 0 n) in
+    ⊎-elim (λ (h : n < length items). omega (arith, below-least items asc q n h (outside h))) (λ h. omega (arith, below-le q items)) (lt-or-ge n (length items))
 
 pub below-after : (i : ℕ) (items : List Item) → StrictAsc (positions items) → i < length items → below (position items i + 1) items ≡ i + 1
 unfolding position

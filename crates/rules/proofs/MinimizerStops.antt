@@ -1,22 +1,21 @@
 -- The stops of the minimizer sweep: at a stop, b is the last item at or before p and e counts the items below p + W.
 -- Both hold on at every start up to the nearer of the next item's position and the start that takes item e in, so the active items are constant between stops.
 -- Assumes nothing.
-use Prim.Native.Nat.{ℕ, zero, suc, _+_, _-_, _≤_, _<_, min}
-use mathlib.Core.Path.{_≡_, refl, sym, ap, _∙_}
+use Prim.Native.Nat.{ℕ, _+_, _≤_, _<_, min}
+use mathlib.Core.Path.{_≡_, refl}
 use mathlib.Core.Logic.{⊎-elim}
 use mathlib.Core.Bool.{Bool, true, false}
-use mathlib.Core.List.{List, [], _∷_, map}
+use mathlib.Core.List.{List}
 use native.Mathlib.Omega.{arith}
 use native.Mathlib.Nat.{add-zero}
-use lib.ListN.{length, getD, length-map}
-use lib.Dec.{ltb, eqb}
+use lib.ListN.{length}
+use lib.Dec.{eqb}
 use borrow.Author.Tests.{lt-ltb, eq-eqb, eqb-true, eqb-false}
 use Rattle.base.specs.Pick.{pick}
-use Rattle.rules.specs.Lists.{count}
-use Rattle.rules.specs.Minimizer.{Item, Stop, position, below, toBegin, toEnd, firstStop, nextStop, moves}
 use Rattle.base.specs.Lists.{StrictAsc}
 use Rattle.base.proofs.Order.{lt-or-ge}
 use Rattle.base.proofs.Lists.{strict-asc}
+use Rattle.rules.specs.Minimizer.{Item, Stop, position, below, toBegin, toEnd, firstStop, nextStop, moves}
 use Rattle.rules.proofs.MinimizerPositions.{positions, below-le, below-mono, below-least, below-above, below-after}
 
 module _ (items : List Item) (up : StrictAsc (positions items)) where
