@@ -1,4 +1,4 @@
--- The laws of the score. The union is the one list that rises strictly and has the members of both, so that a score asks only which hashes
+-- The laws of the score. The union is the one list that ascends strictly and has the members of both, so that a score asks only which hashes
 -- are active, not how often or in which order they are listed; and a hash's coordinate number is its place in such a list.
 -- Assumes nothing.
 use Prim.Native.Nat.{ℕ, zero, suc, _+_, _-_, _≤_, _<_}
@@ -12,6 +12,8 @@ use lib.ListN.{length, take, getD, length-append}
 use lib.Dec.{ltb, eqb}
 use borrow.Author.Tests.{ltb-true, ltb-false, eqb-true, eqb-false, lt-ltb, le-ltb, eq-eqb, ne-eqb}
 use Rattle.base.specs.Pick.{pick}
+use Rattle.base.specs.Lists.{All, StrictAsc}
+use Rattle.base.proofs.Lists.{all-map}
 use Rattle.rules.specs.Lists.{member, count}
 use Rattle.rules.specs.Score.{add, ascending, union, inBoth, score, numberOf, pivotHash}
 
@@ -24,20 +26,6 @@ pub same-test : (a b : Bool) → (a ≡ true → b ≡ true) → (b ≡ true →
 same-test true b f g = sym (f refl)
 same-test false true f g = g refl
 same-test false false f g = refl
-
--- P holds of each element
-abbrev pub All : {A : Type 0} → (A → Type 0) → List A → Type 0
-All P [] = Unit {0}
-All P (x ∷ xs) = P x × All P xs
-
-pub all-map : {A : Type 0} (P Q : A → Type 0) → ((x : A) → P x → Q x) → (xs : List A) → All P xs → All Q xs
-all-map P Q f [] a = tt
-all-map P Q f (x ∷ xs) a = (f x (a .0), all-map P Q f xs (a .1))
-
--- each element is below every later one
-abbrev pub Rising : List ℕ → Type 0
-Rising [] = Unit {0}
-Rising (x ∷ xs) = All (λ y. x < y) xs × Rising xs
 
 -- ---- members
 
@@ -66,7 +54,7 @@ getD-member (x ∷ xs) (suc i) l =
     ⊎-elim (λ (e : eqb (getD xs i 0) x ≡ true). rw e) (λ (e : eqb (getD xs i 0) x ≡ false). rw e (getD-member xs i (le-of-suc-le-suc l))) (cases (eqb (getD xs i 0) x))
 
 -- what lies below all of a list is no member
-below-all : (h : ℕ) (xs : List ℕ) → All (λ y. h < y) xs → member h xs ≡ false
+pub below-all : (h : ℕ) (xs : List ℕ) → All (λ y. h < y) xs → member h xs ≡ false
 below-all h xs a = ⊎-elim (λ (e : member h xs ≡ true). absurd (omega (arith, all-member (λ y. h < y) xs a h e))) (λ (e : member h xs ≡ false). e) (cases (member h xs))
 
 -- ---- ascending
@@ -103,21 +91,21 @@ all-add P g (x ∷ xs) p a =
     (λ (e : ltb g x ≡ false). rw e (⊎-elim (λ (f : eqb g x ≡ true). rw f a) (λ (f : eqb g x ≡ false). rw f (a .0, all-add P g xs p (a .1))) (cases (eqb g x))))
     (cases (ltb g x))
 
-rising-add : (g : ℕ) (xs : List ℕ) → Rising xs → Rising (add g xs)
+strict-add : (g : ℕ) (xs : List ℕ) → StrictAsc xs → StrictAsc (add g xs)
 unfolding add pick
-rising-add g [] r = (tt, tt)
-rising-add g (x ∷ xs) r =
+strict-add g [] r = (tt, tt)
+strict-add g (x ∷ xs) r =
     ⊎-elim (λ (e : ltb g x ≡ true). rw e ((ltb-true g x e, all-map (λ y. x < y) (λ y. g < y) (λ y l. omega (arith, ltb-true g x e)) xs (r .0)), r))
     (λ (e : ltb g x ≡ false).
     rw e
     (⊎-elim (λ (f : eqb g x ≡ true). rw f r)
-    (λ (f : eqb g x ≡ false). rw f (all-add (λ y. x < y) g xs (omega (arith, ltb-false g x e, eqb-false g x f)) (r .0), rising-add g xs (r .1))) (cases (eqb g x))))
+    (λ (f : eqb g x ≡ false). rw f (all-add (λ y. x < y) g xs (omega (arith, ltb-false g x e, eqb-false g x f)) (r .0), strict-add g xs (r .1))) (cases (eqb g x))))
     (cases (ltb g x))
 
-pub rising-ascending : (xs : List ℕ) → Rising (ascending xs)
+pub strict-ascending : (xs : List ℕ) → StrictAsc (ascending xs)
 unfolding ascending
-rising-ascending [] = tt
-rising-ascending (x ∷ xs) = rising-add x (ascending xs) (rising-ascending xs)
+strict-ascending [] = tt
+strict-ascending (x ∷ xs) = strict-add x (ascending xs) (strict-ascending xs)
 
 length-add : (g : ℕ) (xs : List ℕ) → length (add g xs) ≤ suc (length xs)
 unfolding add pick
@@ -132,33 +120,33 @@ unfolding ascending
 length-ascending [] = omega arith
 length-ascending (x ∷ xs) = omega (arith, length-add x (ascending xs), length-ascending xs)
 
--- ---- two rising lists with the same members are one
+-- ---- two strictly ascending lists with the same members are one
 
-rising-first : (x y : ℕ) (xs ys : List ℕ) → Rising (y ∷ ys) → ((h : ℕ) → member h (x ∷ xs) ≡ member h (y ∷ ys)) → y ≤ x
+strict-first : (x y : ℕ) (xs ys : List ℕ) → StrictAsc (y ∷ ys) → ((h : ℕ) → member h (x ∷ xs) ≡ member h (y ∷ ys)) → y ≤ x
 unfolding member
-rising-first x y xs ys r e =
+strict-first x y xs ys r e =
     all-member (λ z. y ≤ z) (y ∷ ys) (omega arith, all-map (λ z. y < z) (λ z. y ≤ z) (λ z l. omega arith) ys (r .0)) x (sym (e x) ∙ rw (eq-eqb x x refl))
 
-pub rising-same : (xs ys : List ℕ) → Rising xs → Rising ys → ((h : ℕ) → member h xs ≡ member h ys) → xs ≡ ys
+pub strict-same : (xs ys : List ℕ) → StrictAsc xs → StrictAsc ys → ((h : ℕ) → member h xs ≡ member h ys) → xs ≡ ys
 unfolding member
-rising-same [] [] r s e = refl
-rising-same [] (y ∷ ys) r s e = absurd (false≢true (e y ∙ rw (eq-eqb y y refl)))
-rising-same (x ∷ xs) [] r s e = absurd (false≢true (sym (e x) ∙ rw (eq-eqb x x refl)))
-rising-same (x ∷ xs) (y ∷ ys) r s e =
-    let same : x ≡ y = omega (arith, rising-first x y xs ys s e, rising-first y x ys xs r (λ h. sym (e h))) in
+strict-same [] [] r s e = refl
+strict-same [] (y ∷ ys) r s e = absurd (false≢true (e y ∙ rw (eq-eqb y y refl)))
+strict-same (x ∷ xs) [] r s e = absurd (false≢true (sym (e x) ∙ rw (eq-eqb x x refl)))
+strict-same (x ∷ xs) (y ∷ ys) r s e =
+    let same : x ≡ y = omega (arith, strict-first x y xs ys s e, strict-first y x ys xs r (λ h. sym (e h))) in
     let rest : (h : ℕ) → member h xs ≡ member h ys = λ h.
     ⊎-elim (λ (f : eqb h x ≡ true).
     let hx : h ≡ x = eqb-true h x f in
     rw hx (below-all x xs (r .0) ∙ sym (rw same (below-all y ys (s .0)))))
     (λ (f : eqb h x ≡ false). let g : eqb h y ≡ false = rw same at f in rw (f, g) at (e h)) (cases (eqb h x)) in
-    let tail : xs ≡ ys = rising-same xs ys (r .1) (s .1) rest in
+    let tail : xs ≡ ys = strict-same xs ys (r .1) (s .1) rest in
     cc
 
 -- ---- the score asks only which hashes are active
 
-pub rising-union : (query active : List ℕ) → Rising (union query active)
+pub strict-union : (query active : List ℕ) → StrictAsc (union query active)
 unfolding union
-rising-union query active = rising-ascending (query ++ active)
+strict-union query active = strict-ascending (query ++ active)
 
 pub member-union : (h : ℕ) (query active : List ℕ) → member h (union query active) ≡ (member h query || member h active)
 unfolding union
@@ -177,7 +165,7 @@ count-same t u e (x ∷ xs) = rw (e x, count-same t u e xs)
 module _ (query a b : List ℕ) (e : (h : ℕ) → member h a ≡ member h b) where
   pub union-same : union query a ≡ union query b
   union-same =
-      rising-same (union query a) (union query b) (rising-union query a) (rising-union query b)
+      strict-same (union query a) (union query b) (strict-union query a) (strict-union query b)
       (λ h. member-union h query a ∙ ap (λ (t : Bool). member h query || t) (e h) ∙ sym (member-union h query b))
 
   pub score-same : score query a ≡ score query b
@@ -197,8 +185,8 @@ unfolding numberOf count pick
 none-below h [] a = refl
 none-below h (c ∷ cs) a = rw (le-ltb c h (a .0)) (omega (arith, none-below h cs (a .1)))
 
--- a member is the first of a rising list, or lies above it
-first-or-later : (c : ℕ) (cs : List ℕ) → Rising (c ∷ cs) → (h : ℕ) → member h (c ∷ cs) ≡ true → (h ≡ c) ⊎ ((c < h) × (member h cs ≡ true))
+-- a member is the first of a strictly ascending list, or lies above it
+pub first-or-later : (c : ℕ) (cs : List ℕ) → StrictAsc (c ∷ cs) → (h : ℕ) → member h (c ∷ cs) ≡ true → (h ≡ c) ⊎ ((c < h) × (member h cs ≡ true))
 unfolding member
 first-or-later c cs r h m =
     ⊎-elim (λ (e : eqb h c ≡ true). inl (eqb-true h c e))
@@ -206,28 +194,28 @@ first-or-later c cs r h m =
     let later : member h cs ≡ true = rw e at m in
     inr (all-member (λ y. c < y) cs (r .0) h later, later)) (cases (eqb h c))
 
-number-first : (c : ℕ) (cs : List ℕ) → Rising (c ∷ cs) → numberOf (c ∷ cs) c ≡ 0
+pub number-first : (c : ℕ) (cs : List ℕ) → StrictAsc (c ∷ cs) → numberOf (c ∷ cs) c ≡ 0
 unfolding numberOf count pick
 number-first c cs r = none-below c (c ∷ cs) (omega arith, all-map (λ y. c < y) (λ y. c ≤ y) (λ y l. omega arith) cs (r .0))
 
-number-later : (c h : ℕ) (cs : List ℕ) → c < h → numberOf (c ∷ cs) h ≡ suc (numberOf cs h)
+pub number-later : (c h : ℕ) (cs : List ℕ) → c < h → numberOf (c ∷ cs) h ≡ suc (numberOf cs h)
 unfolding numberOf count pick
 number-later c h cs l = rw (lt-ltb c h l) (omega arith)
 
-pub at-number : (cs : List ℕ) → Rising cs → (h : ℕ) → member h cs ≡ true → getD cs (numberOf cs h) 0 ≡ h
+pub at-number : (cs : List ℕ) → StrictAsc cs → (h : ℕ) → member h cs ≡ true → getD cs (numberOf cs h) 0 ≡ h
 unfolding member
 at-number [] r h m = absurd (false≢true m)
 at-number (c ∷ cs) r h m =
     ⊎-elim (λ (e : h ≡ c). rw (e, number-first c cs r)) (λ l. rw (number-later c h cs (l .0)) (at-number cs (r .1) h (l .1))) (first-or-later c cs r h m)
 
-pub number-fits : (cs : List ℕ) → Rising cs → (h : ℕ) → member h cs ≡ true → numberOf cs h < length cs
+pub number-fits : (cs : List ℕ) → StrictAsc cs → (h : ℕ) → member h cs ≡ true → numberOf cs h < length cs
 unfolding member
 number-fits [] r h m = absurd (false≢true m)
 number-fits (c ∷ cs) r h m =
     ⊎-elim (λ (e : h ≡ c). rw (e, number-first c cs r) (omega arith)) (λ l. omega (arith, number-later c h cs (l .0), number-fits cs (r .1) h (l .1)))
     (first-or-later c cs r h m)
 
-pub number-at : (cs : List ℕ) → Rising cs → (i : ℕ) → i < length cs → numberOf cs (getD cs i 0) ≡ i
+pub number-at : (cs : List ℕ) → StrictAsc cs → (i : ℕ) → i < length cs → numberOf cs (getD cs i 0) ≡ i
 number-at [] r i l = absurd (not-suc-le-zero l)
 number-at (c ∷ cs) r zero l = number-first c cs r
 number-at (c ∷ cs) r (suc i) l =
@@ -235,18 +223,12 @@ number-at (c ∷ cs) r (suc i) l =
     number-later c (getD cs i 0) cs above ∙ ap suc (number-at cs (r .1) i (le-of-suc-le-suc l))
 
 -- numbers tell members apart, and keep their order
-pub number-only : (cs : List ℕ) → Rising cs → (g h : ℕ) → member g cs ≡ true → member h cs ≡ true → numberOf cs g ≡ numberOf cs h → g ≡ h
+pub number-only : (cs : List ℕ) → StrictAsc cs → (g h : ℕ) → member g cs ≡ true → member h cs ≡ true → numberOf cs g ≡ numberOf cs h → g ≡ h
 number-only cs r g h m n e = sym (at-number cs r g m) ∙ ap (λ (i : ℕ). getD cs i 0) e ∙ at-number cs r h n
 
-pub number-order : (cs : List ℕ) → Rising cs → (g h : ℕ) → member g cs ≡ true → g < h → numberOf cs g < numberOf cs h
+pub number-order : (cs : List ℕ) → StrictAsc cs → (g h : ℕ) → member g cs ≡ true → g < h → numberOf cs g < numberOf cs h
 unfolding member
 number-order [] r g h m l = absurd (false≢true m)
 number-order (c ∷ cs) r g h m l =
     ⊎-elim (λ (e : g ≡ c). rw (e, number-first c cs r) (omega (arith, number-later c h cs (rw e at l))))
     (λ k. omega (arith, number-later c g cs (k .0), number-later c h cs (omega (arith, k .0)), number-order cs (r .1) g h (k .1) l)) (first-or-later c cs r g m)
-
-pub getD-rises : (cs : List ℕ) → Rising cs → (i j : ℕ) → i < j → j < length cs → getD cs i 0 < getD cs j 0
-getD-rises [] r i j h l = absurd (not-suc-le-zero l)
-getD-rises (c ∷ cs) r i zero h l = absurd (not-suc-le-zero h)
-getD-rises (c ∷ cs) r zero (suc j) h l = all-member (λ y. c < y) cs (r .0) (getD cs j 0) (getD-member cs j (le-of-suc-le-suc l))
-getD-rises (c ∷ cs) r (suc i) (suc j) h l = getD-rises cs (r .1) i j (le-of-suc-le-suc h) (le-of-suc-le-suc l)
