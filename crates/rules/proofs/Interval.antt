@@ -2,27 +2,30 @@
 -- best by steps is the best of scoring every position from range start to range end, first and last included, and so the answers are the same.
 -- It holds because each span is a run of positions of one score (IntervalSpans), and the best of a list is the best of its runs (Sweep).
 -- Assumes nothing.
-use Prim.Native.Nat.{ℕ, zero, suc, _+_, _-_, _*_, _/_, _≤_, _<_}
+use Prim.Native.Nat.{ℕ, _+_, _-_, _*_, _≤_, _<_}
 use native.Mathlib.Omega.{arith}
-use mathlib.Core.Path.{_≡_, refl, sym, ap, subst, _∙_}
+use mathlib.Core.Path.{_≡_, refl, sym, _∙_}
 use mathlib.Core.Logic.{⊎-elim}
 use mathlib.Core.Bool.{Bool, true, false, _&&_, _||_, not, false≢true, and-eq-true-iff, or-true}
-use mathlib.Core.List.{List, [], _∷_, _++_, map}
-use lib.ListN.{length, getD, replicate, length-replicate, getD-replicate, length-map}
+use mathlib.Core.List.{List, [], _∷_}
+use lib.ListN.{length, getD, length-replicate, getD-replicate, length-map}
 use lib.Dec.{ltb, leb, eqb}
 use borrow.Author.Tests.{ltb-true, ltb-false, leb-true, eqb-true, not-true}
 use Rattle.base.specs.Pick.{pick}
-use Rattle.base.specs.Lists.{All, Asc}
+use Rattle.base.specs.declared.Verdict.{Verdict}
+use Rattle.base.specs.declared.Verdict.the-variants.{Fine, No}
+use Rattle.base.specs.Lists.{All}
 use Rattle.base.proofs.Lists.{all-map}
-use Rattle.rules.specs.Lists.{member, count, filter, upFrom}
+use Rattle.rules.specs.Lists.{member, count, filter}
 use Rattle.rules.specs.Script.{noCounts}
 use Rattle.rules.specs.Sweep.{Sweep, best}
 use Rattle.rules.specs.Interval.{Interval, intervalsOf, isTaken, taken, coordsOf, hashesOf, kmersPerStart, eventAt, events, beginning, spans, scoredPositions}
 use Rattle.rules.specs.Place.{intervalEarly, intervalFrom, intervalAnswer, intervalByScoring}
+use Rattle.rules.specs.Refusals.{sweepAnswerOf}
 use Rattle.rules.specs.Calls.{intervalPremises}
-use Rattle.rules.proofs.Score.{cases, member-all, member-union, number-fits, length-union}
+use Rattle.rules.proofs.Score.{cases, count-most, length-filter, member-all, member-union, number-fits, length-union}
 use Rattle.rules.proofs.Sweep.{runs-best}
-use Rattle.rules.proofs.IntervalEvents.{Each, Good, Key, on, inserts, deletes, lastKey, past-last, later-all, count-most, event-keys, event-order, event-cover}
+use Rattle.rules.proofs.IntervalEvents.{Each, Good, Key, on, inserts, deletes, lastKey, past-last, later-all, event-keys, event-order, event-cover}
 use Rattle.rules.proofs.IntervalActive.{length-inserted, inserted-at, begun-on}
 use Rattle.rules.proofs.IntervalSpans.{Swept, strict-coords, spans-runs}
 
@@ -141,3 +144,30 @@ module _ (s : Sweep) (premises : intervalPremises s ≡ true) (small : length (c
   pub interval-answer : intervalAnswer s ≡ intervalByScoring s
   unfolding intervalAnswer intervalByScoring intervalFrom
   interval-answer = rw interval-best
+
+-- the premise on the coordinates holds where the sizes keep their limits
+
+length-intervals : (hs ss es : List ℕ) → length (intervalsOf hs ss es) ≤ length hs
+unfolding intervalsOf
+length-intervals [] ss es = omega arith
+length-intervals (h ∷ hs) [] es = omega arith
+length-intervals (h ∷ hs) (p ∷ ss) [] = omega arith
+length-intervals (h ∷ hs) (p ∷ ss) (e ∷ es) = omega (arith, length-intervals hs ss es)
+
+pub length-taken : (s : Sweep) → length (taken s) ≤ length (s .hashes)
+unfolding taken
+length-taken s =
+    omega (arith, length-filter (isTaken s) (intervalsOf (s .hashes) (s .starts) (s .ends)), length-intervals (s .hashes) (s .starts) (s .ends))
+
+pub length-coords : (s : Sweep) → length (coordsOf s) ≤ length (s .query) + length (taken s)
+unfolding coordsOf hashesOf
+length-coords s = omega (arith, length-union (s .query) (hashesOf (taken s)), length-map (taken s) (λ (i : Interval). i .hash))
+
+pub coords-fit : (s : Sweep) → length (s .query) ≤ 4096 → length (s .hashes) ≤ 61440 → length (coordsOf s) ≤ 65536
+coords-fit s q h = omega (arith, length-coords s, length-taken s)
+
+-- what the call promises by scoring: of any verdict that is fine only within the limits
+pub interval-scored : (s : Sweep) (v : Verdict) → (v ≡ Fine → length (coordsOf s) ≤ 65536) → intervalPremises s ≡ true → sweepAnswerOf v (intervalAnswer s) ≡ sweepAnswerOf v (intervalByScoring s)
+unfolding sweepAnswerOf
+interval-scored s Fine small premises = interval-answer s premises (small refl)
+interval-scored s (No r) small premises = refl

@@ -1,41 +1,25 @@
 -- The counts of the interval sweep as sets of hashes: where every coordinate's count is the number of intervals that are on there, the active hashes
 -- are those of these intervals, because coordinates are distinct and every taken hash is one of them. Also what one step does to each count.
 -- Assumes nothing.
-use Prim.Native.Nat.{ℕ, zero, suc, _+_, _-_, _≤_, _<_}
+use Prim.Native.Nat.{ℕ, _+_, _-_, _<_}
 use native.Mathlib.Omega.{arith}
 use native.Mathlib.Nat.{zero-add}
-use mathlib.Core.Path.{_≡_, refl, sym, ap, subst, _∙_}
-use mathlib.Core.Logic.{_⊎_, inl, inr, ⊎-elim}
-use mathlib.Core.Bool.{Bool, true, false, _||_, _&&_, false≢true, and-eq-true-iff, and-false, or-false}
-use mathlib.Core.List.{List, [], _∷_, _++_, map}
-use lib.ListN.{length, getD, set, replicate, length-set, length-replicate}
+use mathlib.Core.Path.{_≡_, refl, sym, ap, _∙_}
+use mathlib.Core.Logic.{⊎-elim}
+use mathlib.Core.Bool.{true, false, false≢true}
+use mathlib.Core.List.{List, [], _∷_}
+use lib.ListN.{length, getD, length-set}
 use lib.Seq.{getD-set-same, getD-set-other}
 use lib.Dec.{ltb, leb, eqb}
-use borrow.Author.Tests.{eqb-true, eqb-false, eq-eqb, ne-eqb, lt-ltb, le-ltb, ltb-true, ltb-false}
+use borrow.Author.Tests.{eqb-true, eqb-false, eq-eqb, ne-eqb, lt-ltb}
 use Rattle.base.specs.Pick.{pick}
 use Rattle.base.specs.Lists.{StrictAsc}
 use Rattle.rules.specs.Lists.{member, count, filter}
 use Rattle.rules.specs.Score.{numberOf}
-use Rattle.rules.specs.Script.{stepped, active, noCounts}
+use Rattle.rules.specs.Script.{stepped, active}
 use Rattle.rules.specs.Interval.{Interval, hashesOf, inserted, covers}
-use Rattle.rules.proofs.Score.{cases, all-member, number-first, number-later, number-fits, number-only, below-all}
+use Rattle.rules.proofs.Score.{cases, number-fits, number-only, member-active}
 use Rattle.rules.proofs.IntervalEvents.{Each, coordOf, on}
-
--- ---- active hashes
-
-member-pick : (h c : ℕ) (t : Bool) (xs : List ℕ) → member h (pick t (c ∷ []) [] ++ xs) ≡ (eqb h c && t || member h xs)
-unfolding member pick
-member-pick h c true xs = ⊎-elim (λ (e : eqb h c ≡ true). rw e) (λ (e : eqb h c ≡ false). rw e) (cases (eqb h c))
-member-pick h c false xs = rw (and-false (eqb h c))
-
-pub member-active : (h : ℕ) (cs ns : List ℕ) → StrictAsc cs → length ns ≡ length cs → member h (active cs ns) ≡ (member h cs && ltb 0 (getD ns (numberOf cs h) 0))
-unfolding active member
-member-active h [] ns r l = refl
-member-active h (c ∷ cs) [] r l = absurd (omega arith)
-member-active h (c ∷ cs) (n ∷ ns) r l =
-    member-pick h c (ltb 0 n) (active cs ns) ∙ rw (member-active h cs ns (r .1) (omega arith))
-    (⊎-elim (λ (e : eqb h c ≡ true). let hc : h ≡ c = eqb-true h c e in rw (e, hc, number-first c cs r, below-all c cs (r .0)) (or-false (ltb 0 n)))
-    (λ (e : eqb h c ≡ false). rw e (⊎-elim (λ (m : member h cs ≡ true). rw (m, number-later c h cs (all-member (λ y. c < y) cs (r .0) h m))) (λ (m : member h cs ≡ false). rw m) (cases (member h cs)))) (cases (eqb h c)))
 
 -- ---- the hashes of the intervals on at p
 

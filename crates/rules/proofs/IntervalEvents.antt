@@ -1,10 +1,10 @@
 -- The events of the interval sweep, counted. Of the keys beyond a place, each taken interval gives an insert where it starts beyond it and a delete
 -- where it ends beyond it (one that ends after range end has no key and is counted apart); so the two counts differ by the intervals on at that place.
 -- Assumes nothing.
-use Prim.Native.Nat.{ℕ, zero, suc, _+_, _-_, _*_, _/_, _%_, _≤_, _<_, min, max}
+use Prim.Native.Nat.{ℕ, _+_, _*_, _≤_, _<_, min, max}
 use native.Mathlib.Omega.{arith}
 use mathlib.Core.Path.{_≡_, refl, sym, ap, _∙_}
-use mathlib.Core.Logic.{_⊎_, inl, inr, ⊎-elim}
+use mathlib.Core.Logic.{⊎-elim}
 use mathlib.Core.Bool.{Bool, true, false, _||_, _&&_, not, and-eq-true-iff, and-true, and-false, or-true}
 use mathlib.Core.List.{List, [], _∷_, _++_, map, flatten}
 use lib.ListN.{length}
@@ -20,7 +20,7 @@ use Rattle.rules.specs.Lists.{count}
 use Rattle.rules.specs.Score.{numberOf}
 use Rattle.rules.specs.Sweep.{Sweep}
 use Rattle.rules.specs.Interval.{Interval, eventKey, eventAt, eventKind, eventCoord, eventsOf, events, taken, coordsOf, covers}
-use Rattle.rules.proofs.Score.{cases}
+use Rattle.rules.proofs.Score.{cases, count-append}
 
 -- ---- the parts of a key
 
@@ -64,17 +64,6 @@ beyond p at kind coord k c =
     (λ (l : at ≤ p). le-ltb (lastKey p) (eventKey at kind coord) (omega arith) ∙ sym (le-ltb p at l)) (lt-or-ge p at)
 
 -- ---- counting
-
-pub count-append : {A : Type 0} (t : A → Bool) (xs ys : List A) → count t (xs ++ ys) ≡ count t xs + count t ys
-unfolding count
-count-append t [] ys = omega arith
-count-append t (x ∷ xs) ys = omega (arith, count-append t xs ys)
-
-pub count-most : {A : Type 0} (t : A → Bool) (xs : List A) → count t xs ≤ length xs
-unfolding count pick
-count-most t [] = omega arith
-count-most t (x ∷ xs) =
-    ⊎-elim (λ (e : t x ≡ true). rw e (omega (arith, count-most t xs))) (λ (e : t x ≡ false). rw e (omega (arith, count-most t xs))) (cases (t x))
 
 count-two : (t : ℕ → Bool) (x y : ℕ) → pick (t (min x y)) 1 0 + pick (t (max x y)) 1 0 ≡ pick (t x) 1 0 + pick (t y) 1 0
 count-two t x y =

@@ -2,15 +2,15 @@
 -- one in their order, a coordinate's count and the inserts left make up what stays to the end and the deletes left: no delete meets a count of 0, for the
 -- interval that it ends was on, and between two positions of events the count is the number of intervals on there.
 -- Assumes nothing.
-use Prim.Native.Nat.{ℕ, zero, suc, _+_, _-_, _*_, _/_, _≤_, _<_}
+use Prim.Native.Nat.{ℕ, zero, suc, _+_, _-_, _≤_, _<_}
 use native.Mathlib.Omega.{arith}
 use mathlib.Core.Path.{_≡_, refl, sym, ap, subst, _∙_}
 use mathlib.Core.Logic.{⊎-elim}
-use mathlib.Core.Bool.{Bool, true, false, _&&_, not, and-false}
+use mathlib.Core.Bool.{Bool, true, false, not, and-false}
 use mathlib.Core.List.{List, [], _∷_, _++_, map, append-nil}
 use lib.ListN.{length, getD}
-use lib.Dec.{ltb, leb, eqb}
-use borrow.Author.Tests.{eqb-true, eqb-false, eq-eqb, lt-ltb, le-ltb}
+use lib.Dec.{eqb}
+use borrow.Author.Tests.{eqb-true, eqb-false, lt-ltb, le-ltb}
 use Rattle.base.specs.Pick.{pick}
 use Rattle.base.specs.Lists.{All, Asc, StrictAsc}
 use Rattle.base.proofs.Lists.{all-map}
@@ -19,7 +19,7 @@ use Rattle.rules.specs.Lists.{member, count, filter, upFrom}
 use Rattle.rules.specs.Score.{score}
 use Rattle.rules.specs.Script.{stepped, active}
 use Rattle.rules.specs.Sweep.{Sweep, Scored}
-use Rattle.rules.specs.Interval.{Interval, taken, coordsOf, hashesOf, eventAt, eventKind, eventCoord, events, span, spansFrom, covers, scoredPosition}
+use Rattle.rules.specs.Interval.{taken, coordsOf, hashesOf, eventAt, eventKind, eventCoord, events, span, spansFrom, covers, scoredPosition}
 use Rattle.rules.proofs.Score.{cases, strict-union, score-same}
 use Rattle.rules.proofs.Sweep.{scored, Run, Runs, none, join, run-up}
 use Rattle.rules.proofs.IntervalEvents.{Each, Good, Key, on, stays, inserts, deletes, later, later-skip, later-all, later-most, lastKey, at-mono, past-last, to-last, event-balance, event-cover}

@@ -2,20 +2,21 @@
 -- are active, not how often or in which order they are listed; and a hash's coordinate number is its place in such a list.
 -- Assumes nothing.
 use Prim.Native.Nat.{ℕ, zero, suc, _+_, _-_, _≤_, _<_}
-use native.Mathlib.Nat.{le-of-suc-le-suc, not-suc-le-zero, eq-or-lt-of-le}
+use native.Mathlib.Nat.{le-of-suc-le-suc, not-suc-le-zero, suc-add}
 use native.Mathlib.Omega.{arith}
 use mathlib.Core.Path.{_≡_, refl, sym, ap, subst, _∙_}
 use mathlib.Core.Logic.{_⊎_, inl, inr, ⊎-elim}
-use mathlib.Core.Bool.{Bool, true, false, _||_, _&&_, false≢true}
+use mathlib.Core.Bool.{Bool, true, false, _||_, _&&_, false≢true, and-eq-true-iff, and-true, and-false, or-false}
 use mathlib.Core.List.{List, [], _∷_, _++_}
 use lib.ListN.{length, take, getD, length-append}
-use lib.Dec.{ltb, eqb}
-use borrow.Author.Tests.{ltb-true, ltb-false, eqb-true, eqb-false, lt-ltb, le-ltb, eq-eqb, ne-eqb}
+use lib.Dec.{ltb, leb, eqb}
+use borrow.Author.Tests.{ltb-true, ltb-false, eqb-true, eqb-false, lt-ltb, le-ltb, le-leb, lt-leb, eq-eqb}
 use Rattle.base.specs.Pick.{pick}
 use Rattle.base.specs.Lists.{All, StrictAsc}
 use Rattle.base.proofs.Lists.{all-map}
-use Rattle.rules.specs.Lists.{member, count}
+use Rattle.rules.specs.Lists.{member, count, filter}
 use Rattle.rules.specs.Score.{add, ascending, union, inBoth, score, numberOf, pivotHash}
+use Rattle.rules.specs.Script.{active, pivotOf, sharedOf}
 
 pub cases : (t : Bool) → (t ≡ true) ⊎ (t ≡ false)
 cases true = inl refl
@@ -56,6 +57,53 @@ getD-member (x ∷ xs) (suc i) l =
 -- what lies below all of a list is no member
 pub below-all : (h : ℕ) (xs : List ℕ) → All (λ y. h < y) xs → member h xs ≡ false
 below-all h xs a = ⊎-elim (λ (e : member h xs ≡ true). absurd (omega (arith, all-member (λ y. h < y) xs a h e))) (λ (e : member h xs ≡ false). e) (cases (member h xs))
+
+-- ---- counting and filtering
+
+-- the same number of elements pass two tests that agree
+pub count-same : {A : Type 0} (t u : A → Bool) → ((x : A) → t x ≡ u x) → (xs : List A) → count t xs ≡ count u xs
+unfolding count
+count-same t u e [] = refl
+count-same t u e (x ∷ xs) = rw (e x, count-same t u e xs)
+
+pub count-append : {A : Type 0} (t : A → Bool) (xs ys : List A) → count t (xs ++ ys) ≡ count t xs + count t ys
+unfolding count
+count-append t [] ys = omega arith
+count-append t (x ∷ xs) ys = omega (arith, count-append t xs ys)
+
+pub count-most : {A : Type 0} (t : A → Bool) (xs : List A) → count t xs ≤ length xs
+unfolding count pick
+count-most t [] = omega arith
+count-most t (x ∷ xs) =
+    ⊎-elim (λ (e : t x ≡ true). rw e (omega (arith, count-most t xs))) (λ (e : t x ≡ false). rw e (omega (arith, count-most t xs))) (cases (t x))
+
+pub count-filter : {A : Type 0} (t : A → Bool) (xs : List A) → count t xs ≡ length (filter t xs)
+unfolding count filter pick
+count-filter t [] = refl
+count-filter t (x ∷ xs) =
+    ⊎-elim (λ (e : t x ≡ true). rw (e, count-filter t xs) (omega arith)) (λ (e : t x ≡ false). rw (e, count-filter t xs) (omega arith)) (cases (t x))
+
+pub length-filter : {A : Type 0} (t : A → Bool) (xs : List A) → length (filter t xs) ≤ length xs
+length-filter t xs = omega (arith, count-filter t xs, count-most t xs)
+
+pub member-filter : (t : ℕ → Bool) (h : ℕ) (xs : List ℕ) → member h (filter t xs) ≡ (t h && member h xs)
+unfolding member filter pick
+member-filter t h [] = sym (and-false (t h))
+member-filter t h (x ∷ xs) =
+    ⊎-elim (λ (f : eqb h x ≡ true). let same : h ≡ x = eqb-true h x f in ⊎-elim (λ (e : t x ≡ true). rw (e, f, same, e)) (λ (e : t x ≡ false). rw (e, member-filter t h xs, same, e)) (cases (t x)))
+    (λ (f : eqb h x ≡ false). ⊎-elim (λ (e : t x ≡ true). rw (e, f) (member-filter t h xs)) (λ (e : t x ≡ false). rw (e, f) (member-filter t h xs)) (cases (t x)))
+    (cases (eqb h x))
+
+all-filter : (P : ℕ → Type 0) (t : ℕ → Bool) (xs : List ℕ) → All P xs → All P (filter t xs)
+unfolding filter pick
+all-filter P t [] a = tt
+all-filter P t (x ∷ xs) a = ⊎-elim (λ (e : t x ≡ true). rw e (a .0, all-filter P t xs (a .1))) (λ (e : t x ≡ false). rw e (all-filter P t xs (a .1))) (cases (t x))
+
+pub strict-filter : (t : ℕ → Bool) (xs : List ℕ) → StrictAsc xs → StrictAsc (filter t xs)
+unfolding filter pick
+strict-filter t [] r = tt
+strict-filter t (x ∷ xs) r =
+    ⊎-elim (λ (e : t x ≡ true). rw e (all-filter (λ y. x < y) t xs (r .0), strict-filter t xs (r .1))) (λ (e : t x ≡ false). rw e (strict-filter t xs (r .1))) (cases (t x))
 
 -- ---- ascending
 
@@ -156,12 +204,6 @@ pub length-union : (query active : List ℕ) → length (union query active) ≤
 unfolding union
 length-union query active = omega (arith, length-ascending (query ++ active), length-append query active)
 
--- the same number of elements pass two tests that agree
-pub count-same : {A : Type 0} (t u : A → Bool) → ((x : A) → t x ≡ u x) → (xs : List A) → count t xs ≡ count u xs
-unfolding count
-count-same t u e [] = refl
-count-same t u e (x ∷ xs) = rw (e x, count-same t u e xs)
-
 module _ (query a b : List ℕ) (e : (h : ℕ) → member h a ≡ member h b) where
   pub union-same : union query a ≡ union query b
   union-same =
@@ -232,3 +274,118 @@ number-order [] r g h m l = absurd (false≢true m)
 number-order (c ∷ cs) r g h m l =
     ⊎-elim (λ (e : g ≡ c). rw (e, number-first c cs r) (omega (arith, number-later c h cs (rw e at l))))
     (λ k. omega (arith, number-later c g cs (k .0), number-later c h cs (omega (arith, k .0)), number-order cs (r .1) g h (k .1) l)) (first-or-later c cs r g m)
+
+-- ---- the score by coordinate numbers
+
+-- a list within another is no longer
+pub strict-within : (xs ys : List ℕ) → StrictAsc xs → StrictAsc ys → ((h : ℕ) → member h xs ≡ true → member h ys ≡ true) → length xs ≤ length ys
+strict-within xs ys r s f =
+    let inside : ℕ → Bool = λ h. member h xs in
+    let same : xs ≡ filter inside ys = strict-same xs (filter inside ys) r (strict-filter inside ys s)
+    (λ h. sym (member-filter inside h ys ∙ ⊎-elim (λ (m : member h xs ≡ true). rw (m, f h m)) (λ (m : member h xs ≡ false). rw m) (cases (member h xs)))) in
+    omega (arith, ap length same, length-filter inside ys)
+
+filter-none : (h : ℕ) (xs : List ℕ) → All (λ y. h < y) xs → filter (λ c. leb c h) xs ≡ []
+unfolding filter pick
+filter-none h [] a = refl
+filter-none h (x ∷ xs) a = rw (lt-leb x h (a .0)) (filter-none h xs (a .1))
+
+-- as many as are at most a member are those at most it
+pub take-number : (cs : List ℕ) → StrictAsc cs → (h : ℕ) → member h cs ≡ true → take (numberOf cs h + 1) cs ≡ filter (λ c. leb c h) cs
+unfolding member filter pick
+take-number [] r h m = absurd (false≢true m)
+take-number (c ∷ cs) r h m =
+    ⊎-elim (λ (e : h ≡ c). rw (e, number-first c cs r, le-leb c c (omega arith), filter-none c cs (r .0)))
+    (λ l.
+    rw (number-later c h cs (l .0), suc-add (numberOf cs h) 1, le-leb c h (omega (arith, l .0)))
+    (ap (λ (zs : List ℕ). c ∷ zs) (take-number cs (r .1) h (l .1)))) (first-or-later c cs r h m)
+
+module _ (query ref coords : List ℕ) (strict-query : StrictAsc query) (some : 0 < length query) (strict-coords : StrictAsc coords)
+    (query-in : (h : ℕ) → member h query ≡ true → member h coords ≡ true) (ref-in : (h : ℕ) → member h ref ≡ true → member h coords ≡ true) where
+  query-union : (h : ℕ) → member h query ≡ true → member h (union query ref) ≡ true
+  query-union h m = member-union h query ref ∙ rw m
+
+  union-coords : (h : ℕ) → member h (union query ref) ≡ true → member h coords ≡ true
+  union-coords h m =
+      let either : (member h query || member h ref) ≡ true = sym (member-union h query ref) ∙ m in
+      ⊎-elim (λ (q : member h query ≡ true). query-in h q) (λ (q : member h query ≡ false). ref-in h (rw q at either)) (cases (member h query))
+
+  -- the pivot's place in the union
+  pub union-long : length query ≤ length (union query ref)
+  union-long = strict-within query (union query ref) strict-query (strict-union query ref) query-union
+
+  pub pivot-member : member (pivotHash query ref) (union query ref) ≡ true
+  unfolding pivotHash
+  pivot-member = getD-member (union query ref) (length query - 1) (omega (arith, union-long))
+
+  pub pivot-number : numberOf (union query ref) (pivotHash query ref) + 1 ≡ length query
+  unfolding pivotHash
+  pivot-number = omega (arith, number-at (union query ref) (strict-union query ref) (length query - 1) (omega (arith, union-long)))
+
+  pub pivot-coord : member (pivotHash query ref) coords ≡ true
+  pivot-coord = union-coords (pivotHash query ref) pivot-member
+
+  -- those in both, at most the pivot
+  lowest : List ℕ → List ℕ
+  lowest xs = filter (inBoth query ref) (filter (λ c. leb c (pivotHash query ref)) xs)
+
+  member-lowest : (xs : List ℕ) → ((h : ℕ) → member h query ≡ true → member h xs ≡ true) → (h : ℕ) → member h (lowest xs) ≡ (inBoth query ref h && leb h (pivotHash query ref))
+  unfolding lowest inBoth
+  member-lowest xs f h =
+      member-filter (inBoth query ref) h (filter (λ c. leb c (pivotHash query ref)) xs) ∙
+      rw (member-filter (λ c. leb c (pivotHash query ref)) h xs)
+      (⊎-elim (λ (m : member h query ≡ true). rw (m, f h m, and-true)) (λ (m : member h query ≡ false). rw m) (cases (member h query)))
+
+  strict-lowest : (xs : List ℕ) → StrictAsc xs → StrictAsc (lowest xs)
+  unfolding lowest
+  strict-lowest xs r = strict-filter (inBoth query ref) (filter (λ c. leb c (pivotHash query ref)) xs) (strict-filter (λ c. leb c (pivotHash query ref)) xs r)
+
+  count-lowest : (xs : List ℕ) → StrictAsc xs → member (pivotHash query ref) xs ≡ true → count (inBoth query ref) (take (numberOf xs (pivotHash query ref) + 1) xs) ≡ length (lowest xs)
+  unfolding lowest
+  count-lowest xs r m = rw (take-number xs r (pivotHash query ref) m) (count-filter (inBoth query ref) (filter (λ c. leb c (pivotHash query ref)) xs))
+
+  -- the coordinates through the pivot hold as many hashes in both as the union's k smallest
+  pub score-coords : count (inBoth query ref) (take (numberOf coords (pivotHash query ref) + 1) coords) ≡ score query ref
+  unfolding score
+  score-coords =
+      count-lowest coords strict-coords pivot-coord ∙
+      ap length (strict-same (lowest coords) (lowest (union query ref)) (strict-lowest coords strict-coords) (strict-lowest (union query ref) (strict-union query ref))
+      (λ h. member-lowest coords query-in h ∙ sym (member-lowest (union query ref) query-union h))) ∙
+      sym (count-lowest (union query ref) (strict-union query ref) pivot-member) ∙
+      ap (λ (n : ℕ). count (inBoth query ref) (take n (union query ref))) pivot-number
+
+-- ---- the active hashes, by the counts
+
+member-pick : (h c : ℕ) (t : Bool) (xs : List ℕ) → member h (pick t (c ∷ []) [] ++ xs) ≡ (eqb h c && t || member h xs)
+unfolding member pick
+member-pick h c true xs = ⊎-elim (λ (e : eqb h c ≡ true). rw e) (λ (e : eqb h c ≡ false). rw e) (cases (eqb h c))
+member-pick h c false xs = rw (and-false (eqb h c))
+
+pub member-active : (h : ℕ) (cs ns : List ℕ) → StrictAsc cs → length ns ≡ length cs → member h (active cs ns) ≡ (member h cs && ltb 0 (getD ns (numberOf cs h) 0))
+unfolding active member
+member-active h [] ns r l = refl
+member-active h (c ∷ cs) [] r l = absurd (omega arith)
+member-active h (c ∷ cs) (n ∷ ns) r l =
+    member-pick h c (ltb 0 n) (active cs ns) ∙ rw (member-active h cs ns (r .1) (omega arith))
+    (⊎-elim (λ (e : eqb h c ≡ true). let hc : h ≡ c = eqb-true h c e in rw (e, hc, number-first c cs r, below-all c cs (r .0)) (or-false (ltb 0 n)))
+    (λ (e : eqb h c ≡ false). rw e (⊎-elim (λ (m : member h cs ≡ true). rw (m, number-later c h cs (all-member (λ y. c < y) cs (r .0) h m))) (λ (m : member h cs ≡ false). rw m) (cases (member h cs)))) (cases (eqb h c)))
+
+module _ (query coords counts : List ℕ) (strict-query : StrictAsc query) (some : 0 < length query) (strict-coords : StrictAsc coords)
+    (query-in : (h : ℕ) → member h query ≡ true → member h coords ≡ true) (sized : length counts ≡ length coords) where
+  active-in : (h : ℕ) → member h (active coords counts) ≡ true → member h coords ≡ true
+  active-in h m = and-eq-true-iff (member h coords) (ltb 0 (getD counts (numberOf coords h) 0)) .0 (sym (member-active h coords counts strict-coords sized) ∙ m) .0
+
+  -- what is counted by coordinate numbers is the score
+  pub shared-score : sharedOf query coords counts ≡ score query (active coords counts)
+  unfolding sharedOf pivotOf
+  shared-score = score-coords query (active coords counts) coords strict-query some strict-coords query-in active-in
+
+  pub pivot-fits : pivotOf query coords counts < length coords
+  unfolding pivotOf
+  pivot-fits =
+      number-fits coords strict-coords (pivotHash query (active coords counts)) (pivot-coord query (active coords counts) coords strict-query some strict-coords query-in active-in)
+
+  pub pivot-at : getD coords (pivotOf query coords counts) 0 ≡ pivotHash query (active coords counts)
+  unfolding pivotOf
+  pivot-at =
+      at-number coords strict-coords (pivotHash query (active coords counts)) (pivot-coord query (active coords counts) coords strict-query some strict-coords query-in active-in)
