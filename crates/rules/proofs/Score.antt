@@ -222,7 +222,7 @@ module _ (query a b : List ℕ) (e : (h : ℕ) → member h a ≡ member h b) wh
 
 -- ---- the coordinate number of a hash is its place
 
-none-below : (h : ℕ) (cs : List ℕ) → All (λ c. h ≤ c) cs → numberOf cs h ≡ 0
+pub none-below : (h : ℕ) (cs : List ℕ) → All (λ c. h ≤ c) cs → numberOf cs h ≡ 0
 unfolding numberOf count pick
 none-below h [] a = refl
 none-below h (c ∷ cs) a = rw (le-ltb c h (a .0)) (omega (arith, none-below h cs (a .1)))
@@ -243,6 +243,10 @@ number-first c cs r = none-below c (c ∷ cs) (omega arith, all-map (λ y. c < y
 pub number-later : (c h : ℕ) (cs : List ℕ) → c < h → numberOf (c ∷ cs) h ≡ suc (numberOf cs h)
 unfolding numberOf count pick
 number-later c h cs l = rw (lt-ltb c h l) (omega arith)
+
+pub number-skip : (c h : ℕ) (cs : List ℕ) → h ≤ c → numberOf (c ∷ cs) h ≡ numberOf cs h
+unfolding numberOf count pick
+number-skip c h cs l = rw (le-ltb c h l) (omega arith)
 
 pub at-number : (cs : List ℕ) → StrictAsc cs → (h : ℕ) → member h cs ≡ true → getD cs (numberOf cs h) 0 ≡ h
 unfolding member
