@@ -61,6 +61,32 @@ module _ (n : ℕ) (entry : List ℕ) where
 pub zeroed-whole : (entry : List ℕ) → zeroed (length entry) entry ≡ replicate (length entry) 0
 zeroed-whole entry = ap (λ (l : List ℕ). replicate (length entry) 0 ++ l) (drop-length entry) ∙ append-nil (replicate (length entry) 0)
 
+-- A loop that clears the first n, in turn i.
+pub record Clearing (entry : List ℕ) (n : ℕ) (now : List ℕ) (i : ℕ) : Type 0 where
+  pub upto : i ≤ n
+  pub room : n ≤ length entry
+  pub is : now ≡ zeroed i entry
+
+module _ {entry : List ℕ} {n : ℕ} where
+  pub clearing-start : n ≤ length entry → Clearing entry n entry 0
+  clearing-start h = record { upto = omega arith; room = h; is = zeroed-none entry }
+
+  module _ {now : List ℕ} {i : ℕ} (c : Clearing entry n now i) where
+    pub clearing-length : length now ≡ length entry
+    clearing-length = ap length (c .is) ∙ length-zeroed i entry (omega arith)
+
+    pub clearing-step : i < n → Clearing entry n (set now i 0) (i + 1)
+    clearing-step l = record {
+      upto = omega arith;
+      room = c .room;
+      is = ap (λ (l : List ℕ). set l i 0) (c .is) ∙ zeroed-more i entry (omega arith);
+    }
+
+    pub clearing-end : n ≤ i → now ≡ zeroed n entry
+    clearing-end l =
+        let e : i ≡ n = omega arith in
+        c .is ∙ ap (λ (k : ℕ). zeroed k entry) e
+
 -- Answers over the front.
 module _ {A : Type 0} (answers entry : List A) where
   pub length-over : length answers ≤ length entry → length (over answers entry) ≡ length entry

@@ -1,7 +1,9 @@
 -- Where a list first breaks its order: the later of two neighbours that stand wrong.
 use mathlib.Core.Bool.{Bool, true, false}
 use mathlib.Core.List.{List, [], _∷_}
-use Prim.Native.Nat.{ℕ, _+_}
+use mathlib.Core.Path.{_≡_}
+use Prim.Native.Nat.{ℕ, _+_, _<_, _≤_}
+use lib.ListN.{length, getD}
 use Rattle.base.specs.Pick.{pick}
 
 -- the head stands at i, after p: the index of the first element that is not `ok` after the one before it, or the index past the end
@@ -13,3 +15,10 @@ orderFrom ok i p (x ∷ xs) = pick (ok p x) (orderFrom ok (i + 1) x xs) i
 unfoldable pub orderOf : (ℕ → ℕ → Bool) → List ℕ → ℕ
 orderOf ok [] = 0
 orderOf ok (x ∷ xs) = orderFrom ok 1 x xs
+
+-- what such an index is, by neighbours: all before it are ok, and it is not, unless it is the length; one r alone is such (`order-unique`)
+pub record FirstWrong (ok : ℕ → ℕ → Bool) (xs : List ℕ) (r : ℕ) : Type 0 where
+  pub within : r ≤ length xs
+  pub second : 0 < length xs → 0 < r
+  pub before : (k : ℕ) → k + 1 < r → ok (getD xs k 0) (getD xs (k + 1) 0) ≡ true
+  pub wrong : (k : ℕ) → r ≡ k + 1 → r < length xs → ok (getD xs k 0) (getD xs (k + 1) 0) ≡ false

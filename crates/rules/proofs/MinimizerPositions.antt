@@ -1,55 +1,19 @@
 -- How many positions lie below a number: in a list that never descends, position i is one of them exactly when i is less than their count.
 -- Assumes nothing.
-use Prim.Native.Nat.{ℕ, zero, suc, _+_, _≤_, _<_}
-use mathlib.Core.Path.{_≡_, refl}
+use Prim.Native.Nat.{ℕ, zero, suc, _+_, _-_, _≤_, _<_}
+use mathlib.Core.Path.{_≡_, refl, ap}
 use mathlib.Core.Logic.{_⊎_, inl, inr, ⊎-elim}
-use mathlib.Core.Bool.{Bool, true, false}
-use mathlib.Core.List.{List, [], _∷_}
+use mathlib.Core.List.{List, [], _∷_, map}
 use native.Mathlib.Omega.{arith}
-use native.Mathlib.Nat.{zero-add}
-use native.Mathlib.Numerals.{add-one}
-use lib.ListN.{length, getD}
-use lib.Dec.{ltb, leb}
-use borrow.Author.Tests.{ltb-true, leb-true, lt-ltb, le-ltb}
+use lib.ListN.{length, getD, length-map}
+use lib.Dec.{ltb}
+use borrow.Author.Tests.{lt-ltb, le-ltb}
 use Rattle.base.specs.Pick.{pick}
 use Rattle.base.specs.Lists.{Asc, StrictAsc}
 use Rattle.base.proofs.Order.{lt-or-ge}
-use Rattle.base.proofs.Lists.{asc-at, asc-steps, strict-at, strict-asc, strict-steps}
+use Rattle.base.proofs.Lists.{asc-at, strict-at, strict-asc}
 use Rattle.rules.specs.Lists.{count}
-use Rattle.rules.specs.Refusals.{orderFrom, orderOf}
-
--- ---- order
-
-order-step : (ok : ℕ → ℕ → Bool) (k p x : ℕ) (xs : List ℕ) → orderFrom ok k p (x ∷ xs) ≡ k + suc (length xs) → (ok p x ≡ true) × (orderFrom ok (k + 1) x xs ≡ k + 1 + length xs)
-unfolding orderFrom pick
-order-step ok k p x xs e = go (ok p x) refl
-  where
-    go : (t : Bool) → ok p x ≡ t → (ok p x ≡ true) × (orderFrom ok (k + 1) x xs ≡ k + 1 + length xs)
-    go true t =
-        let f : orderFrom ok (k + 1) x xs ≡ k + suc (length xs) = rw t at e in
-        (t, omega arith)
-    go false t =
-        let f : k ≡ k + suc (length xs) = rw t at e in
-        absurd (omega arith)
-
-order-from : (ok : ℕ → ℕ → Bool) (k p : ℕ) (xs : List ℕ) → orderFrom ok k p xs ≡ k + length xs → (i : ℕ) → i < length xs → ok (getD (p ∷ xs) i 0) (getD xs i 0) ≡ true
-order-from ok k p [] e i l = absurd (omega arith)
-order-from ok k p (x ∷ xs) e zero l = order-step ok k p x xs e .0
-order-from ok k p (x ∷ xs) e (suc i) l = order-from ok (k + 1) x xs (order-step ok k p x xs e .1) i (omega arith)
-
--- where no index is refused, each element passes after the one before it
-order-at : (ok : ℕ → ℕ → Bool) (xs : List ℕ) → orderOf ok xs ≡ length xs → (i : ℕ) → i + 1 < length xs → ok (getD xs i 0) (getD xs (i + 1) 0) ≡ true
-unfolding orderOf
-order-at ok [] e i l = absurd (omega arith)
-order-at ok (x ∷ xs) e i l = rw add-one (order-from ok 1 x xs (omega (arith, e)) i (omega arith))
-
-pub order-strict : (xs : List ℕ) → orderOf ltb xs ≡ length xs → StrictAsc xs
-order-strict xs e = strict-steps xs λ i l. ltb-true (getD xs i 0) (getD xs (i + 1) 0) (order-at ltb xs e i l)
-
-pub order-asc : (xs : List ℕ) → orderOf leb xs ≡ length xs → Asc xs
-order-asc xs e = asc-steps xs λ i l. leb-true (getD xs i 0) (getD xs (i + 1) 0) (order-at leb xs e i l)
-
--- ---- counts
+use Rattle.rules.specs.Minimizer.{Item, position, below}
 
 abbrev pub under : ℕ → List ℕ → ℕ
 under q ps = count (λ x. ltb x q) ps
@@ -59,9 +23,9 @@ unfolding count
 under-none q = refl
 
 -- the first is below q and counts, or is not and does not
-under-step : (q x : ℕ) (xs : List ℕ) → ((x < q) × (under q (x ∷ xs) ≡ 1 + under q xs)) ⊎ ((q ≤ x) × (under q (x ∷ xs) ≡ under q xs))
+under-step : (q x : ℕ) (xs : List ℕ) → ((x < q) × (under q (x ∷ xs) ≡ suc (under q xs))) ⊎ ((q ≤ x) × (under q (x ∷ xs) ≡ under q xs))
 unfolding count pick
-under-step q x xs = ⊎-elim (λ h. inl (h, simp (lt-ltb x q h))) (λ h. inr (h, simp (le-ltb x q h, zero-add))) (lt-or-ge x q)
+under-step q x xs = ⊎-elim (λ h. inl (h, rw (lt-ltb x q h) (omega arith))) (λ h. inr (h, rw (le-ltb x q h) (omega arith))) (lt-or-ge x q)
 
 pub under-le : (q : ℕ) (ps : List ℕ) → under q ps ≤ length ps
 under-le q [] = omega (arith, under-none q)
@@ -104,3 +68,48 @@ under-after i ps s l =
     let c = under-above q i ps a l (omega arith) in
     ⊎-elim (λ (m : suc i < length ps). omega (arith, under-least q (suc i) ps a m (omega (arith, strict-at ps s i (suc i) (omega arith) m))))
     (λ m. omega (arith, under-le q ps)) (lt-or-ge (suc i) (length ps))
+
+-- ---- the same of items, by their positions
+
+abbrev pub positions : List Item → List ℕ
+positions items = map (λ (x : Item). x .at) items
+
+pub below-is : (q : ℕ) (items : List Item) → below q items ≡ under q (positions items)
+unfolding below count
+below-is q [] = refl
+below-is q (x ∷ xs) = ap (λ (n : ℕ). pick (ltb (x .at) q) 1 0 + n) (below-is q xs)
+
+pub below-none : (q : ℕ) → below q [] ≡ 0
+unfolding below count
+below-none q = refl
+
+pub below-step : (q : ℕ) (x : Item) (xs : List Item) → ((x .at < q) × (below q (x ∷ xs) ≡ suc (below q xs))) ⊎ ((q ≤ x .at) × (below q (x ∷ xs) ≡ below q xs))
+below-step q x xs = rw (below-is q (x ∷ xs), below-is q xs) (under-step q (x .at) (positions xs))
+
+length-positions : (items : List Item) → length (positions items) ≡ length items
+length-positions items = length-map items (λ (x : Item). x .at)
+
+pub below-le : (q : ℕ) (items : List Item) → below q items ≤ length items
+below-le q items = omega (arith, below-is q items, under-le q (positions items), length-positions items)
+
+pub below-mono : (q r : ℕ) (items : List Item) → q ≤ r → below q items ≤ below r items
+below-mono q r items l = omega (arith, below-is q items, below-is r items, under-mono q r (positions items) l)
+
+module _ (items : List Item) (asc : Asc (positions items)) (q i : ℕ) (l : i < length items) where
+  pub below-least : q ≤ position items i → below q items ≤ i
+  unfolding position
+  below-least h = rw (below-is q items) (under-least q i (positions items) asc (rw length-map l) h)
+
+  pub below-above : position items i < q → i < below q items
+  unfolding position
+  below-above h = rw (below-is q items) (under-above q i (positions items) asc (rw length-map l) h)
+
+-- what a scan that stops at the first position not below q has found
+pub below-exact : (items : List Item) → Asc (positions items) → (q n : ℕ) → n ≤ length items → (0 < n → position items (n - 1) < q) → (n < length items → q ≤ position items n) → below q items ≡ n
+below-exact items asc q n l inside outside =
+    let least : n ≤ below q items = ⊎-elim (λ (h : 0 < n). omega (arith, below-above items asc q (n - 1) (omega arith) (inside h))) (λ h. omega arith) (lt-or-ge 0 n) in
+    ⊎-elim (λ (h : n < length items). omega (arith, below-least items asc q n h (outside h))) (λ h. omega (arith, below-le q items)) (lt-or-ge n (length items))
+
+pub below-after : (i : ℕ) (items : List Item) → StrictAsc (positions items) → i < length items → below (position items i + 1) items ≡ i + 1
+unfolding position
+below-after i items up l = rw below-is (under-after i (positions items) up (rw length-map l))

@@ -1,59 +1,35 @@
 -- The stops of the minimizer sweep: at a stop, b is the last item at or before p and e counts the items below p + W.
 -- Both hold on at every start up to the nearer of the next item's position and the start that takes item e in, so the active items are constant between stops.
 -- Assumes nothing.
-use Prim.Native.Nat.{ℕ, zero, suc, _+_, _-_, _≤_, _<_, min}
-use mathlib.Core.Path.{_≡_, refl, sym, ap, _∙_}
+use Prim.Native.Nat.{ℕ, _+_, _≤_, _<_, min}
+use mathlib.Core.Path.{_≡_, refl}
 use mathlib.Core.Logic.{⊎-elim}
 use mathlib.Core.Bool.{Bool, true, false}
-use mathlib.Core.List.{List, [], _∷_, map}
+use mathlib.Core.List.{List}
 use native.Mathlib.Omega.{arith}
 use native.Mathlib.Nat.{add-zero}
-use lib.ListN.{length, getD, length-map}
-use lib.Dec.{ltb, eqb}
-use borrow.Author.Tests.{lt-ltb, eqb-true, eqb-false}
+use lib.ListN.{length}
+use lib.Dec.{eqb}
+use borrow.Author.Tests.{lt-ltb, eq-eqb, eqb-true, eqb-false}
 use Rattle.base.specs.Pick.{pick}
-use Rattle.rules.specs.Lists.{count}
-use Rattle.rules.specs.Minimizer.{Item, Stop, position, below, toBegin, toEnd, firstStop, nextStop, moves}
 use Rattle.base.specs.Lists.{StrictAsc}
 use Rattle.base.proofs.Order.{lt-or-ge}
 use Rattle.base.proofs.Lists.{strict-asc}
-use Rattle.rules.proofs.MinimizerPositions.{under, under-le, under-mono, under-least, under-above, under-after}
-
-abbrev pub positions : List Item → List ℕ
-positions items = map (λ (x : Item). x .at) items
-
-pub below-is : (q : ℕ) (items : List Item) → below q items ≡ under q (positions items)
-unfolding below count
-below-is q [] = refl
-below-is q (x ∷ xs) = ap (λ (n : ℕ). pick (ltb (x .at) q) 1 0 + n) (below-is q xs)
-
-pub below-le : (q : ℕ) (items : List Item) → below q items ≤ length items
-below-le q items = omega (arith, below-is q items, under-le q (positions items), length-map items (λ (x : Item). x .at))
-
-pub below-mono : (q r : ℕ) (items : List Item) → q ≤ r → below q items ≤ below r items
-below-mono q r items l = omega (arith, below-is q items, below-is r items, under-mono q r (positions items) l)
+use Rattle.rules.specs.Minimizer.{Item, Stop, position, below, toBegin, toEnd, firstStop, nextStop, moves}
+use Rattle.rules.proofs.MinimizerPositions.{positions, below-le, below-mono, below-least, below-above, below-after}
 
 module _ (items : List Item) (up : StrictAsc (positions items)) where
-  below-least : (q i : ℕ) → i < length items → q ≤ position items i → below q items ≤ i
-  unfolding position
-  below-least q i l h = rw (below-is q items) (under-least q i (positions items) (strict-asc (positions items) up) (rw length-map l) h)
-
   -- an item that is not counted lies at q or beyond
   beyond : (q i : ℕ) → i < length items → below q items ≤ i → q ≤ position items i
-  unfolding position
   beyond q i l h =
-      ⊎-elim (λ (a : position items i < q). absurd (omega (arith, below-is q items, under-above q i (positions items) (strict-asc (positions items) up) (rw length-map l) a)))
-      (λ a. a) (lt-or-ge (position items i) q)
-
-  pub below-after : (i : ℕ) → i < length items → below (position items i + 1) items ≡ i + 1
-  unfolding position
-  below-after i l = rw below-is (under-after i (positions items) up (rw length-map l))
+      ⊎-elim (λ (c : position items i < q). absurd (omega (arith, below-above items (strict-asc (positions items) up) q i l c))) (λ c. c)
+      (lt-or-ge (position items i) q)
 
   -- as long as item i is not passed
   still : (q r i : ℕ) → below q items ≡ i → q ≤ r → (i < length items → r ≤ position items i) → below r items ≡ i
   still q r i e l h =
       let m = below-mono q r items l in
-      ⊎-elim (λ (a : i < length items). omega (arith, below-least r i a (h a))) (λ a. omega (arith, below-le r items)) (lt-or-ge i (length items))
+      ⊎-elim (λ (a : i < length items). omega (arith, below-least items (strict-asc (positions items) up) r i a (h a))) (λ a. omega (arith, below-le r items)) (lt-or-ge i (length items))
 
   -- d on from q, item i being t on at most: it is taken in exactly when d is all of t
   advance : (q i d t r : ℕ) → i < length items → below q items ≡ i → q + t ≡ position items i + 1 → d ≤ t → r ≡ q + d → below r items ≡ i + pick (eqb d t) 1 0
@@ -63,7 +39,7 @@ module _ (items : List Item) (up : StrictAsc (positions items)) where
       go : (u : Bool) → eqb d t ≡ u → below r items ≡ i + pick u 1 0
       go true u =
           let z : r ≡ position items i + 1 = omega (arith, eqb-true d t u) in
-          rw z (below-after i l)
+          rw z (below-after i items up l)
       go false u = rw add-zero (still q r i e (omega arith) λ _. omega (arith, far, eqb-false d t u))
 
 -- b is the last item at or before p, e counts the items below p + w
@@ -78,6 +54,14 @@ moved t q = record { b = t .b; e = t .e; p = q }
 pub at-length : (items : List Item) (w : ℕ) (t : Stop) → At items w t → t .e ≤ length items
 at-length items w t a = omega (arith, a .end, below-le (t .p + w) items)
 
+-- the nearer of the two items is passed, so a sweep has no more stops than twice the items
+pub next-further : (w : ℕ) (items : List Item) (t : Stop) → t .b + t .e < nextStop w items t .b + nextStop w items t .e
+unfolding nextStop pick
+next-further w items t =
+    let f = toBegin items t in
+    let g = toEnd w items t in
+    ⊎-elim (λ (l : f < g). rw (eq-eqb (min f g) f (omega arith)) (omega arith)) (λ (l : g ≤ f). rw (eq-eqb (min f g) g (omega arith)) (omega arith)) (lt-or-ge f g)
+
 -- the active items are never none
 pub at-some : (items : List Item) (w : ℕ) (t : Stop) → 0 < w → At items w t → t .b < t .e
 at-some items w t h a = omega (arith, a .begin, a .end, below-mono (t .p + 1) (t .p + w) items (omega arith))
@@ -85,7 +69,7 @@ at-some items w t h a = omega (arith, a .begin, a .end, below-mono (t .p + 1) (t
 module _ (items : List Item) (up : StrictAsc (positions items)) (w : ℕ) (some : 0 < w) where
   pub at-first : 0 < length items → At items w (firstStop w items)
   unfolding firstStop
-  at-first h = record { begin = below-after items up 0 h; end = refl }
+  at-first h = record { begin = below-after 0 items up h; end = refl }
 
   module _ (t : Stop) (a : At items w t) (inside : t .e < length items) where
     next-begin : t .p + 1 ≤ position items (t .b + 1)
@@ -98,6 +82,10 @@ module _ (items : List Item) (up : StrictAsc (positions items)) (w : ℕ) (some 
     pub at-moves : moves w items t ≡ true
     unfolding moves toBegin toEnd
     at-moves = lt-ltb 0 (min (toBegin items t) (toEnd w items t)) (omega (arith, next-begin, next-end))
+
+    pub at-ahead : t .p < nextStop w items t .p
+    unfolding nextStop toBegin toEnd
+    at-ahead = omega (arith, next-begin, next-end)
 
     -- the active items are constant up to the next stop
     pub at-still : (q : ℕ) → t .p ≤ q → q < nextStop w items t .p → At items w (moved t q)
