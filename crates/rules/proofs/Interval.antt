@@ -21,7 +21,9 @@ use Rattle.rules.specs.Script.{noCounts}
 use Rattle.rules.specs.Sweep.{Sweep, best}
 use Rattle.rules.specs.Interval.{Interval, intervalsOf, isTaken, taken, coordsOf, hashesOf, kmersPerStart, eventAt, events, beginning, spans, scoredPositions}
 use Rattle.rules.specs.Place.{intervalEarly, intervalFrom, intervalAnswer, intervalByScoring}
-use Rattle.rules.specs.Refusals.{sweepAnswerOf}
+use Rattle.rules.specs.Limits.{queryLimit, itemLimit}
+use Rattle.rules.specs.Checks.{refuse, orElse, intervalSizes, sweepOrders, sweepTable, intervalInput, sweepNeeds, keysNeed}
+use Rattle.rules.specs.Refusals.{SweepRoom, need, intervalInputIn, intervalVerdict, sweepAnswerOf, intervalCall}
 use Rattle.rules.specs.Calls.{intervalPremises}
 use Rattle.rules.proofs.Score.{cases, count-most, length-filter, member-all, member-union, number-fits, length-union}
 use Rattle.rules.proofs.Sweep.{runs-best}
@@ -141,9 +143,9 @@ module _ (s : Sweep) (premises : intervalPremises s ≡ true) (small : length (c
       let both = and-eq-true-iff (not (intervalEarly s)) (eqb (count forward (taken s)) (length (taken s))) .0 premises in
       spans-best s small (taken-good s (eqb-true (count forward (taken s)) (length (taken s)) (both .1))) (early-order s (not-true (intervalEarly s) (both .0)))
 
-  pub interval-answer : intervalAnswer s ≡ intervalByScoring s
+  pub interval-demand-3 : intervalAnswer s ≡ intervalByScoring s
   unfolding intervalAnswer intervalByScoring intervalFrom
-  interval-answer = rw interval-best
+  interval-demand-3 = rw interval-best
 
 -- the premise on the coordinates holds where the sizes keep their limits
 
@@ -163,11 +165,41 @@ pub length-coords : (s : Sweep) → length (coordsOf s) ≤ length (s .query) + 
 unfolding coordsOf hashesOf
 length-coords s = omega (arith, length-union (s .query) (hashesOf (taken s)), length-map (taken s) (λ (i : Interval). i .hash))
 
-pub coords-fit : (s : Sweep) → length (s .query) ≤ 4096 → length (s .hashes) ≤ 61440 → length (coordsOf s) ≤ 65536
+-- the limits on query hashes and items leave at most 65,536 coordinates
+pub coords-fit : (s : Sweep) → length (s .query) ≤ queryLimit → length (s .hashes) ≤ itemLimit → length (coordsOf s) ≤ 65536
 coords-fit s q h = omega (arith, length-coords s, length-taken s)
 
--- what the call promises by scoring: of any verdict that is fine only within the limits
-pub interval-scored : (s : Sweep) (v : Verdict) → (v ≡ Fine → length (coordsOf s) ≤ 65536) → intervalPremises s ≡ true → sweepAnswerOf v (intervalAnswer s) ≡ sweepAnswerOf v (intervalByScoring s)
+else-fine : (v w : Verdict) → orElse v w ≡ Fine → v ≡ Fine
+unfolding orElse
+else-fine Fine w e = refl
+else-fine (No r) w e = e
+
+never-refused : (number : ℕ) → refuse number 0 ≡ Fine → ⊥
+never-refused number e = let z : _≡_ {A = ℕ} 0 1 = cc in omega arith
+
+sizes-fine : (query hashes starts ends identities uppers kmer : ℕ) → intervalSizes query hashes starts ends identities uppers kmer ≡ Fine → (query ≤ queryLimit) × (hashes ≤ itemLimit)
+unfolding pick
+sizes-fine query hashes starts ends identities uppers kmer e =
+    ⊎-elim (λ (q : ltb queryLimit query ≡ true). absurd (never-refused 1 (rw q at e)))
+    (λ (q : ltb queryLimit query ≡ false).
+    ⊎-elim (λ (h : ltb itemLimit hashes ≡ true). absurd (never-refused 1 (rw (q, h) at e))) (λ (h : ltb itemLimit hashes ≡ false). (ltb-false queryLimit query q, ltb-false itemLimit hashes h)) (cases (ltb itemLimit hashes))) (cases (ltb queryLimit query))
+
+-- what the checks let through has its coordinates in 16 bits
+pub fine-coords : (s : Sweep) → intervalInputIn s ≡ Fine → length (coordsOf s) ≤ 65536
+unfolding intervalInputIn intervalInput
+fine-coords s e =
+    let sizes = sizes-fine (length (s .query)) (length (s .hashes)) (length (s .starts)) (length (s .ends)) (length (s .identities)) (length (s .uppers)) (s .settings .kmer)
+    (else-fine (intervalSizes (length (s .query)) (length (s .hashes)) (length (s .starts)) (length (s .ends)) (length (s .identities)) (length (s .uppers)) (s .settings .kmer)) (orElse (sweepOrders (s .query) (s .starts)) (sweepTable (length (s .query)) (length (s .identities)))) e) in
+    coords-fit s (sizes .0) (sizes .1)
+
+scored-of : (s : Sweep) (v : Verdict) → (v ≡ Fine → length (coordsOf s) ≤ 65536) → intervalPremises s ≡ true → sweepAnswerOf v (intervalAnswer s) ≡ sweepAnswerOf v (intervalByScoring s)
 unfolding sweepAnswerOf
-interval-scored s Fine small premises = interval-answer s premises (small refl)
-interval-scored s (No r) small premises = refl
+scored-of s Fine small premises = interval-demand-3 s premises (small refl)
+scored-of s (No r) small premises = refl
+
+-- the whole call, refusals included, by scoring
+pub interval-scored : (s : Sweep) (room : SweepRoom) (keys : ℕ) → intervalPremises s ≡ true → intervalCall s room keys ≡ sweepAnswerOf (intervalVerdict s room keys) (intervalByScoring s)
+unfolding intervalCall intervalVerdict
+interval-scored s room keys premises =
+    let needs = orElse (sweepNeeds (need s) (room .hashes) (room .counts) (room .coords) (room .words) (room .summary)) (keysNeed (length (s .hashes)) keys) in
+    scored-of s (intervalVerdict s room keys) (λ e. fine-coords s (else-fine (intervalInputIn s) needs e)) premises
