@@ -8,7 +8,7 @@ use mathlib.Core.Path.{_≡_, refl, sym, ap, subst, _∙_}
 use mathlib.Core.Logic.{_⊎_, inl, inr, ⊎-elim}
 use mathlib.Core.Bool.{Bool, true, false, _||_, _&&_, false≢true, and-eq-true-iff, and-true, and-false, or-false}
 use mathlib.Core.List.{List, [], _∷_, _++_}
-use lib.ListN.{length, take, getD, length-append}
+use lib.ListN.{length, take, getD, length-append, length-take}
 use lib.Dec.{ltb, leb, eqb}
 use borrow.Author.Tests.{ltb-true, ltb-false, eqb-true, eqb-false, lt-ltb, le-ltb, le-leb, lt-leb, eq-eqb}
 use Rattle.base.specs.Pick.{pick}
@@ -200,9 +200,18 @@ pub member-union : (h : ℕ) (query active : List ℕ) → member h (union query
 unfolding union
 member-union h query active = member-ascending h (query ++ active) ∙ member-append h query active
 
+pub union-left : (h : ℕ) (query active : List ℕ) → member h query ≡ true → member h (union query active) ≡ true
+union-left h query active m = member-union h query active ∙ rw m
+
 pub length-union : (query active : List ℕ) → length (union query active) ≤ length query + length active
 unfolding union
 length-union query active = omega (arith, length-ascending (query ++ active), length-append query active)
+
+-- no score passes the number of query hashes
+pub score-most : (query active : List ℕ) → score query active ≤ length query
+unfolding score
+score-most query active =
+    omega (arith, count-most (inBoth query active) (take (length query) (union query active)), length-take (length query) (union query active))
 
 module _ (query a b : List ℕ) (e : (h : ℕ) → member h a ≡ member h b) where
   pub union-same : union query a ≡ union query b
@@ -306,9 +315,6 @@ take-number (c ∷ cs) r h m =
 
 module _ (query ref coords : List ℕ) (strict-query : StrictAsc query) (some : 0 < length query) (strict-coords : StrictAsc coords)
     (query-in : (h : ℕ) → member h query ≡ true → member h coords ≡ true) (ref-in : (h : ℕ) → member h ref ≡ true → member h coords ≡ true) where
-  query-union : (h : ℕ) → member h query ≡ true → member h (union query ref) ≡ true
-  query-union h m = member-union h query ref ∙ rw m
-
   union-coords : (h : ℕ) → member h (union query ref) ≡ true → member h coords ≡ true
   union-coords h m =
       let either : (member h query || member h ref) ≡ true = sym (member-union h query ref) ∙ m in
@@ -316,7 +322,7 @@ module _ (query ref coords : List ℕ) (strict-query : StrictAsc query) (some : 
 
   -- the pivot's place in the union
   pub union-long : length query ≤ length (union query ref)
-  union-long = strict-within query (union query ref) strict-query (strict-union query ref) query-union
+  union-long = strict-within query (union query ref) strict-query (strict-union query ref) (λ h. union-left h query ref)
 
   pub pivot-member : member (pivotHash query ref) (union query ref) ≡ true
   unfolding pivotHash
@@ -354,7 +360,7 @@ module _ (query ref coords : List ℕ) (strict-query : StrictAsc query) (some : 
   score-coords =
       count-lowest coords strict-coords pivot-coord ∙
       ap length (strict-same (lowest coords) (lowest (union query ref)) (strict-lowest coords strict-coords) (strict-lowest (union query ref) (strict-union query ref))
-      (λ h. member-lowest coords query-in h ∙ sym (member-lowest (union query ref) query-union h))) ∙
+      (λ h. member-lowest coords query-in h ∙ sym (member-lowest (union query ref) (λ g. union-left g query ref) h))) ∙
       sym (count-lowest (union query ref) (strict-union query ref) pivot-member) ∙
       ap (λ (n : ℕ). count (inBoth query ref) (take n (union query ref))) pivot-number
 
