@@ -35,6 +35,7 @@ mod sliding_mapper;
 #[path = "shims/mapper_with_pivot.rs"]
 mod mapper_with_pivot;
 
+pub mod antt;
 pub mod call;
 pub mod case;
 pub mod diff;

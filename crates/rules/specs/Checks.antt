@@ -161,6 +161,7 @@ intervalFinderSizes contigs starts ends groups minimum =
     (pick (eqb minimum 0) (refuse 2 0)
     (pick (ltb minimumLimit minimum) (refuse 2 0) Fine)))))
 
+-- 3: the same, of three lists.
 abbrev pub intervalFinderLengths : (contigs starts ends total : ℕ) → Verdict
 intervalFinderLengths contigs starts ends total =
     pick (eqb contigs starts)
