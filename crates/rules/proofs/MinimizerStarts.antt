@@ -16,9 +16,10 @@ use Rattle.base.specs.Lists.{StrictAsc}
 use Rattle.base.proofs.Order.{lt-or-ge}
 use Rattle.rules.specs.Lists.{filter, upFrom}
 use Rattle.rules.specs.Sweep.{Sweep}
-use Rattle.rules.specs.Minimizer.{Item, Stop, windowsPerStart, localItems, below, firstStop, goesOn, nextStop, moves, stopsFrom, stops, admitted}
+use Rattle.rules.specs.Minimizer.{Item, Stop, windowsPerStart, localItems, below, firstStop, goesOn, nextStop, stopsFrom, stops, admitted}
 use Rattle.rules.proofs.MinimizerPositions.{positions, below-mono}
-use Rattle.rules.proofs.MinimizerStops.{At, moved, at-length, at-some, at-first, next-further, at-moves, at-ahead, at-still, at-next}
+use Rattle.rules.proofs.MinimizerSteps.{stops-end, stops-on, Fuelled, fuelled-first, fuelled-next, fuelled-some}
+use Rattle.rules.proofs.MinimizerStops.{At, moved, at-first, at-moves, at-ahead, at-still, at-next}
 
 -- for each stop its start and the n numbers after it, at which the active items are the stop's
 pub data Covered (items : List Item) (w : ℕ) : List Stop → List ℕ → Type 0 where
@@ -48,15 +49,6 @@ up-same a b (suc n) h = rw (h (omega arith))
 -- ---- the sweep
 
 module _ (items : List Item) (w rangeEnd : ℕ) where
-  stops-end : (fuel : ℕ) (t : Stop) → goesOn rangeEnd items t ≡ false → stopsFrom fuel w rangeEnd items t ≡ []
-  unfolding stopsFrom
-  stops-end zero t e = refl
-  stops-end (suc fuel) t e = rw (e, stopsFrom)
-
-  stops-on : (fuel : ℕ) (t : Stop) → goesOn rangeEnd items t ≡ true → moves w items t ≡ true → stopsFrom (suc fuel) w rangeEnd items t ≡ t ∷ stopsFrom fuel w rangeEnd items (nextStop w items t)
-  unfolding stopsFrom
-  stops-on fuel t e f = rw (e, stopsFrom) (rw f)
-
   -- a start with an item at p + w or beyond
   abbrev admits : ℕ → Bool
   admits p = ltb (below (p + w) items) (length items)
@@ -69,7 +61,7 @@ module _ (items : List Item) (w rangeEnd : ℕ) where
   past-items : (fuel : ℕ) (t : Stop) → below (t .p + w) items ≡ t .e → length items ≤ t .e → Covered items w (stopsFrom fuel w rangeEnd items t) (startsFrom (t .p))
   unfolding goesOn
   past-items fuel t e h =
-      rw (stops-end fuel t (rw (le-ltb (t .e) (length items) h)), none-passes admits (rangeEnd + 1 - t .p) (t .p) λ q l. le-ltb (below (q + w) items) (length items) (omega (arith, below-mono (t .p + w) (q + w) items (omega arith)))) none
+      rw (stops-end items w rangeEnd fuel t (rw (le-ltb (t .e) (length items) h)), none-passes admits (rangeEnd + 1 - t .p) (t .p) λ q l. le-ltb (below (q + w) items) (length items) (omega (arith, below-mono (t .p + w) (q + w) items (omega arith)))) none
 
   module _ (up : StrictAsc (positions items)) (some : 0 < w) where
     module _ (t : Stop) (a : At items w t) (inside : t .e < length items) where
@@ -78,7 +70,7 @@ module _ (items : List Item) (w rangeEnd : ℕ) where
       unfolding goesOn filter upFrom
       past-end fuel h =
           let e : rangeEnd + 1 - t .p ≡ 0 = omega arith in
-          rw (stops-end fuel t (rw (lt-ltb (t .e) (length items) inside, lt-leb (t .p) rangeEnd h)), e) none
+          rw (stops-end items w rangeEnd fuel t (rw (lt-ltb (t .e) (length items) inside, lt-leb (t .p) rangeEnd h)), e) none
 
       module _ (before : t .p ≤ rangeEnd) where
         abbrev next : Stop
@@ -102,15 +94,15 @@ module _ (items : List Item) (w rangeEnd : ℕ) where
         goes-on : (fuel : ℕ) → Covered items w (stopsFrom fuel w rangeEnd items next) (startsFrom (next .p)) → Covered items w (stopsFrom (suc fuel) w rangeEnd items t) (startsFrom (t .p))
         unfolding goesOn
         goes-on fuel c =
-            rw (stops-on fuel t (rw (lt-ltb (t .e) (length items) inside, le-leb (t .p) rangeEnd before)) (at-moves items up w some t a inside), starts-split)
+            rw (stops-on items w rangeEnd fuel t (rw (lt-ltb (t .e) (length items) inside, le-leb (t .p) rangeEnd before)) (at-moves items up w some t a inside), starts-split)
             (stop t others constant c)
 
-    -- fuel for each item that b and e have yet to pass is enough
-    walk : (fuel : ℕ) (t : Stop) → At items w t → length items + length items ≤ fuel + (t .b + t .e) → Covered items w (stopsFrom fuel w rangeEnd items t) (startsFrom (t .p))
-    walk zero t a f = absurd (omega (arith, at-some items w t some a, at-length items w t a))
+    walk : (fuel : ℕ) (t : Stop) → At items w t → Fuelled items fuel t → Covered items w (stopsFrom fuel w rangeEnd items t) (startsFrom (t .p))
+    walk zero t a f =
+        ⊎-elim (λ (i : t .e < length items). absurd (omega (arith, fuelled-some f i))) (past-items zero t (a .end)) (lt-or-ge (t .e) (length items))
     walk (suc fuel) t a f =
         ⊎-elim (λ (i : t .e < length items).
-        ⊎-elim (past-end t a i (suc fuel)) (λ (b : t .p ≤ rangeEnd). goes-on t a i b fuel (walk fuel (nextStop w items t) (at-next items up w some t a i) (omega (arith, next-further w items t))))
+        ⊎-elim (past-end t a i (suc fuel)) (λ (b : t .p ≤ rangeEnd). goes-on t a i b fuel (walk fuel (nextStop w items t) (at-next items up w some t a i) (fuelled-next w f (at-moves items up w some t a i))))
         (lt-or-ge rangeEnd (t .p)))
         (past-items (suc fuel) t (a .end)) (lt-or-ge (t .e) (length items))
 
@@ -121,6 +113,5 @@ stops-cover s up some =
     let items = localItems s in
     let w = windowsPerStart s in
     let end = s .range .end in
-    let fuel = length items + length items in
-    ⊎-elim (λ (h : 0 < length items). walk items w end up some fuel (firstStop w items) (at-first items up w some h) (omega arith))
-    (λ (h : length items ≤ 0). past-items items w end fuel (firstStop w items) refl (omega arith)) (lt-or-ge 0 (length items))
+    ⊎-elim (λ (h : 0 < length items). walk items w end up some _ (firstStop w items) (at-first items up w some h) (fuelled-first w _ items h (omega arith)))
+    (λ (h : length items ≤ 0). past-items items w end _ (firstStop w items) refl (omega arith)) (lt-or-ge 0 (length items))

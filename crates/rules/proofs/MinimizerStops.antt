@@ -10,7 +10,7 @@ use native.Mathlib.Omega.{arith}
 use native.Mathlib.Nat.{add-zero}
 use lib.ListN.{length}
 use lib.Dec.{eqb}
-use borrow.Author.Tests.{lt-ltb, eq-eqb, eqb-true, eqb-false}
+use borrow.Author.Tests.{lt-ltb, eqb-true, eqb-false}
 use Rattle.base.specs.Pick.{pick}
 use Rattle.base.specs.Lists.{StrictAsc}
 use Rattle.base.proofs.Order.{lt-or-ge}
@@ -50,17 +50,6 @@ pub record At (items : List Item) (w : ℕ) (t : Stop) : Type 0 where
 -- the same active items at another start
 abbrev pub moved : Stop → ℕ → Stop
 moved t q = record { b = t .b; e = t .e; p = q }
-
-pub at-length : (items : List Item) (w : ℕ) (t : Stop) → At items w t → t .e ≤ length items
-at-length items w t a = omega (arith, a .end, below-le (t .p + w) items)
-
--- the nearer of the two items is passed, so a sweep has no more stops than twice the items
-pub next-further : (w : ℕ) (items : List Item) (t : Stop) → t .b + t .e < nextStop w items t .b + nextStop w items t .e
-unfolding nextStop pick
-next-further w items t =
-    let f = toBegin items t in
-    let g = toEnd w items t in
-    ⊎-elim (λ (l : f < g). rw (eq-eqb (min f g) f (omega arith)) (omega arith)) (λ (l : g ≤ f). rw (eq-eqb (min f g) g (omega arith)) (omega arith)) (lt-or-ge f g)
 
 -- the active items are never none
 pub at-some : (items : List Item) (w : ℕ) (t : Stop) → 0 < w → At items w t → t .b < t .e
