@@ -7,17 +7,19 @@ use mathlib.Core.Path.{_≡_, refl}
 use mathlib.Core.Logic.{⊎-elim}
 use mathlib.Core.Bool.{true, false}
 use mathlib.Core.List.{List, [], _∷_, map}
-use lib.ListN.{length}
-use lib.Dec.{ltb, eqb}
+use lib.ListN.{length, length-map, List·getD-map}
+use lib.Dec.{eqb}
 use borrow.Author.Tests.{eq-eqb, ne-eqb}
 use Rattle.base.specs.Pick.{pick}
 use Rattle.base.specs.Lists.{All}
-use Rattle.base.specs.declared.Best.{Best}
+use Rattle.base.proofs.Lists.{all-at}
 use Rattle.rules.specs.Lists.{member}
 use Rattle.rules.specs.Script.{stepped, active}
-use Rattle.rules.specs.Sweep.{Sweep, Scored, base, better, bestFrom, best}
+use Rattle.rules.specs.Sweep.{Sweep, Scored, best}
 use Rattle.rules.specs.Interval.{taken, hashesOf, coordsOf, eventAt, eventKind, eventCoord, events, beginning, span, spansFrom, spans}
 use Rattle.rules.proofs.Score.{cases, score-most, union-left}
+use Rattle.rules.proofs.Sweep.{scored}
+use Rattle.rules.proofs.SweepBest.{best-is}
 
 -- every query hash is a coordinate
 pub query-coords : (s : Sweep) (h : ℕ) → member h (s .query) ≡ true → member h (coordsOf s) ≡ true
@@ -45,23 +47,12 @@ module _ (s : Sweep) (from : ℕ) (counts : List ℕ) where
 abbrev scoresOf : List Scored → List ℕ
 scoresOf xs = map (λ (x : Scored). x .score) xs
 
-better-most : (n : ℕ) (b : Best) (x : Scored) → b .shared ≤ n → x .score ≤ n → better b x .shared ≤ n
-unfolding better pick
-better-most n b x l m =
-    ⊎-elim (λ (e : ltb (b .shared) (x .score) ≡ true). rw e m)
-    (λ (e : ltb (b .shared) (x .score) ≡ false).
-    rw e (⊎-elim (λ (f : eqb (b .shared) (x .score) ≡ true). rw f l) (λ (f : eqb (b .shared) (x .score) ≡ false). rw f l) (cases (eqb (b .shared) (x .score)))))
-    (cases (ltb (b .shared) (x .score)))
-
-pub from-most : (n : ℕ) (b : Best) (xs : List Scored) → b .shared ≤ n → All (λ v. v ≤ n) (scoresOf xs) → bestFrom b xs .shared ≤ n
-unfolding bestFrom
-from-most n b [] l a = l
-from-most n b (x ∷ xs) l a = from-most n (better b x) xs (better-most n b x l (a .0)) (a .1)
-
 pub best-most : (n : ℕ) (xs : List Scored) → All (λ v. v ≤ n) (scoresOf xs) → best xs .shared ≤ n
 unfolding best
 best-most n [] a = omega arith
-best-most n (x ∷ xs) a = from-most n (record { shared = x .score; first = base (x .first); last = base (x .last) }) xs (a .0) (a .1)
+best-most n (x ∷ xs) a =
+    let e = best-is x xs .earliest in
+    omega (arith, e .1 .has, List·getD-map (λ (y : Scored). y .score) (x ∷ xs) (e .0) (scored 0 0 0), all-at (λ v. v ≤ n) (scoresOf (x ∷ xs)) a (e .0) (omega (arith, e .1 .inside, length-map (x ∷ xs) (λ (y : Scored). y .score))))
 
 spans-most : (s : Sweep) (ks : List ℕ) (from : ℕ) (counts : List ℕ) → All (λ v. v ≤ length (s .query)) (scoresOf (spansFrom s from counts ks))
 unfolding spansFrom span pick
