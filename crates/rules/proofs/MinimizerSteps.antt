@@ -14,7 +14,7 @@ use Rattle.base.specs.Pick.{pick}
 use Rattle.base.specs.Lists.{All}
 use Rattle.base.proofs.Order.{lt-or-ge}
 use Rattle.rules.specs.Sweep.{Sweep, Scored, best}
-use Rattle.rules.specs.Minimizer.{Item, Stop, position, toBegin, toEnd, firstStop, goesOn, nextStop, moves, stopsFrom, stops, part, localItems, scoreItems, scoredStop, scoredStops}
+use Rattle.rules.specs.Minimizer.{Item, Stop, position, toBegin, toEnd, firstStop, goesOn, nextStop, moves, stopsFrom, stops, localItems, scoreItems, scoredStop, scoredStops}
 use Rattle.rules.proofs.Score.{score-most}
 use Rattle.rules.proofs.IntervalRounds.{best-most}
 use Rattle.rules.proofs.MinimizerPositions.{positions}
@@ -84,7 +84,7 @@ module _ {items : List Item} {fuel : ℕ} {t : Stop} where
 stops-most : (query : List ℕ) (items : List Item) (ts : List Stop) → All (λ v. v ≤ length query) (map (λ (x : Scored). x .score) (map (scoredStop query items) ts))
 unfolding scoredStop scoreItems
 stops-most query items [] = tt
-stops-most query items (t ∷ ts) = (score-most query (map (λ (x : Item). x .hash) (part items (t .b) (t .e))), stops-most query items ts)
+stops-most query items (t ∷ ts) = (score-most query _, stops-most query items ts)
 
 pub minimizer-most : (s : Sweep) → best (scoredStops s) .shared ≤ length (s .query)
 unfolding scoredStops
