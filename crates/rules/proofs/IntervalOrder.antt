@@ -42,7 +42,7 @@ turn-at j k e = omega arith
 
 turn-kind : (j k : ℕ) → turn j ≡ turn k → eventKind j ≡ eventKind k
 unfolding eventKind
-turn-kind j k e = ap (λ (n : ℕ). n % 2) e
+turn-kind j k e = omega arith
 
 module _ (s : Sweep) where
   swap-keys : (from : ℕ) (counts : List ℕ) (j k : ℕ) (ks : List ℕ) → turn j ≡ turn k → spansFrom s from counts (j ∷ k ∷ ks) ≡ spansFrom s from counts (k ∷ j ∷ ks)
