@@ -33,7 +33,7 @@ use Rattle.rules.proofs.IntervalSpans.{Swept, strict-coords, spans-runs
 
 -- ---- what is known of the taken intervals
 
-each-map : (P Q : Interval → Type 0) → ((i : Interval) → P i → Q i) → (is : List Interval) → Each P is → Each Q is
+pub each-map : (P Q : Interval → Type 0) → ((i : Interval) → P i → Q i) → (is : List Interval) → Each P is → Each Q is
 each-map P Q f [] a = tt
 each-map P Q f (i ∷ is) a = (f i (a .0), each-map P Q f is (a .1))
 

@@ -2,7 +2,7 @@
 -- inserts. It holds because two steps of one kind commute, and no span begins between keys of one position. So the sweep need not sort by coordinate:
 -- inserts in the order of their starts and deletes in the order of their ends may be merged.
 -- Assumes nothing.
-use Prim.Native.Nat.{ℕ, _+_, _-_, _/_, _%_, _≤_, _<_, min, max}
+use Prim.Native.Nat.{ℕ, _+_, _-_, _/_, _≤_, _<_, min, max}
 use native.Mathlib.Omega.{arith}
 use mathlib.Core.Path.{_≡_, refl, sym, ap, _∙_}
 use mathlib.Core.Logic.{⊎-elim, _≢_}
