@@ -5,10 +5,9 @@ use Prim.Native.Nat.{ℕ, _+_, _*_, _≤_, _<_}
 use native.Mathlib.Omega.{arith}
 use mathlib.Core.Path.{_≡_, refl, _∙_}
 use mathlib.Core.Logic.{⊎-elim}
-use mathlib.Core.Bool.{Bool, true, false, _&&_}
+use mathlib.Core.Bool.{Bool, true, false}
 use mathlib.Core.List.{List, [], _∷_, _++_, map, flatten}
 use lib.ListN.{length}
-use lib.Dec.{ltb, leb}
 use Rattle.base.specs.Pick.{pick}
 use Rattle.base.specs.Lists.{All, Asc, hit, times}
 use Rattle.base.specs.Sort.{sortOf}
@@ -18,31 +17,19 @@ use Rattle.rules.specs.Lists.{filter, member}
 use Rattle.rules.specs.Sweep.{Sweep}
 use Rattle.rules.specs.Interval.{Interval, intervalsOf, isTaken, taken, coordsOf, eventKey, eventsOf, events, beginning, spansFrom, spans}
 use Rattle.rules.proofs.Score.{cases, number-fits}
-use Rattle.rules.proofs.IntervalEvents.{Each, coordOf}
+use Rattle.rules.proofs.IntervalEach.{Each, each-map, each-all, all-each, each-filter}
+use Rattle.rules.proofs.IntervalEvents.{coordOf, startsLater, endsLater, insertKey, deleteKey}
 use Rattle.rules.proofs.IntervalSpans.{strict-coords}
-use Rattle.rules.proofs.Interval.{each-map, taken-members}
+use Rattle.rules.proofs.Interval.{taken-members}
 use Rattle.rules.proofs.IntervalTaken.{startsOf, starts-are}
 use Rattle.rules.proofs.IntervalOrder.{turn, spans-any}
 
--- later starts, and ends after range start, up to range end
-abbrev pub startsLater : Sweep → Interval → Bool
-startsLater s i = ltb (s .range .start) (i .start) && leb (i .start) (s .range .end)
-
-abbrev pub endsLater : Sweep → Interval → Bool
-endsLater s i = ltb (s .range .start) (i .end) && leb (i .end) (s .range .end)
-
--- their keys
-abbrev pub insertKey : Sweep → Interval → ℕ
-insertKey s i = eventKey (i .start) 1 (coordOf (coordsOf s) i)
-
-abbrev pub deleteKey : Sweep → Interval → ℕ
-deleteKey s i = eventKey (i .end) 0 (coordOf (coordsOf s) i)
-
+-- the keys of later starts, and of ends within the range
 abbrev pub insertKeys : Sweep → List ℕ
-insertKeys s = map (insertKey s) (filter (startsLater s) (taken s))
+insertKeys s = map (insertKey (coordsOf s)) (filter (startsLater s) (taken s))
 
 abbrev pub deleteKeys : Sweep → List ℕ
-deleteKeys s = map (deleteKey s) (filter (endsLater s) (taken s))
+deleteKeys s = map (deleteKey (coordsOf s)) (filter (endsLater s) (taken s))
 
 -- ---- together they are the events
 
@@ -64,11 +51,11 @@ unfolding times
 times-nil v = refl
 
 module _ (s : Sweep) where
-  times-keys : (v : ℕ) (is : List Interval) → times v (map (insertKey s) (filter (startsLater s) is)) + times v (map (deleteKey s) (filter (endsLater s) is)) ≡ times v (flatten (map (eventsOf s (coordsOf s)) is))
+  times-keys : (v : ℕ) (is : List Interval) → times v (map (insertKey (coordsOf s)) (filter (startsLater s) is)) + times v (map (deleteKey (coordsOf s)) (filter (endsLater s) is)) ≡ times v (flatten (map (eventsOf s (coordsOf s)) is))
   unfolding flatten eventsOf
-  times-keys v [] = omega (arith, times-none v (insertKey s) (startsLater s), times-none v (deleteKey s) (endsLater s), times-nil v)
+  times-keys v [] = omega (arith, times-none v (insertKey (coordsOf s)) (startsLater s), times-none v (deleteKey (coordsOf s)) (endsLater s), times-nil v)
   times-keys v (i ∷ is) =
-      omega (arith, times-keys v is, times-filter v (insertKey s) (startsLater s) i is, times-filter v (deleteKey s) (endsLater s) i is, times-pick v (insertKey s i) (startsLater s i), times-pick v (deleteKey s i) (endsLater s i), times-append v (pick (startsLater s i) (insertKey s i ∷ []) []) (pick (endsLater s i) (deleteKey s i ∷ []) []), times-append v (pick (startsLater s i) (insertKey s i ∷ []) [] ++ pick (endsLater s i) (deleteKey s i ∷ []) []) (flatten (map (eventsOf s (coordsOf s)) is)))
+      omega (arith, times-keys v is, times-filter v (insertKey (coordsOf s)) (startsLater s) i is, times-filter v (deleteKey (coordsOf s)) (endsLater s) i is, times-pick v (insertKey (coordsOf s) i) (startsLater s i), times-pick v (deleteKey (coordsOf s) i) (endsLater s i), times-append v (pick (startsLater s i) (insertKey (coordsOf s) i ∷ []) []) (pick (endsLater s i) (deleteKey (coordsOf s) i ∷ []) []), times-append v (pick (startsLater s i) (insertKey (coordsOf s) i ∷ []) [] ++ pick (endsLater s i) (deleteKey (coordsOf s) i ∷ []) []) (flatten (map (eventsOf s (coordsOf s)) is)))
 
   pub events-keys : sortOf (insertKeys s ++ deleteKeys s) ≡ events s
   unfolding events
@@ -82,39 +69,27 @@ module _ (s : Sweep) where
 
 -- ---- the keys of the starts ascend already
 
-all-filter : (P : ℕ → Type 0) (key : Interval → ℕ) (t : Interval → Bool) (is : List Interval) → All P (map key is) → All P (map key (filter t is))
-unfolding filter pick
-all-filter P key t [] a = tt
-all-filter P key t (i ∷ is) a =
-    ⊎-elim (λ (e : t i ≡ true). rw e (a .0, all-filter P key t is (a .1))) (λ (e : t i ≡ false). rw e (all-filter P key t is (a .1))) (cases (t i))
-
 asc-filter : (key : Interval → ℕ) (t : Interval → Bool) (is : List Interval) → Asc (map key is) → Asc (map key (filter t is))
 unfolding filter pick
 asc-filter key t [] r = tt
 asc-filter key t (i ∷ is) r =
-    ⊎-elim (λ (e : t i ≡ true). rw e (all-filter (λ y. key i ≤ y) key t is (r .0), asc-filter key t is (r .1))) (λ (e : t i ≡ false). rw e (asc-filter key t is (r .1))) (cases (t i))
+    ⊎-elim (λ (e : t i ≡ true). rw e (all-each (λ y. key i ≤ y) key (filter t is) (each-filter (λ j. key i ≤ key j) t is (each-all (λ y. key i ≤ y) key is (r .0))), asc-filter key t is (r .1))) (λ (e : t i ≡ false). rw e (asc-filter key t is (r .1))) (cases (t i))
 
 -- a key's turn tells its start, if its coordinate fits 16 bits
 turn-insert : (at coord : ℕ) → coord < 65536 → turn (eventKey at 1 coord) ≡ at * 2 + 1
 unfolding eventKey
 turn-insert at coord l = omega arith
 
-each-filter : (P : Interval → Type 0) (t : Interval → Bool) (is : List Interval) → Each P is → Each P (filter t is)
-unfolding filter pick
-each-filter P t [] a = tt
-each-filter P t (i ∷ is) a =
-    ⊎-elim (λ (e : t i ≡ true). rw e (a .0, each-filter P t is (a .1))) (λ (e : t i ≡ false). rw e (each-filter P t is (a .1))) (cases (t i))
-
 module _ (s : Sweep) where
   abbrev Fits : Interval → Type 0
   Fits i = coordOf (coordsOf s) i < 65536
 
-  all-turns : (i : Interval) → Fits i → (is : List Interval) → Each Fits is → All (λ p. i .start ≤ p) (startsOf is) → All (λ u. turn (insertKey s i) ≤ u) (map turn (map (insertKey s) is))
+  all-turns : (i : Interval) → Fits i → (is : List Interval) → Each Fits is → All (λ p. i .start ≤ p) (startsOf is) → All (λ u. turn (insertKey (coordsOf s) i) ≤ u) (map turn (map (insertKey (coordsOf s)) is))
   all-turns i f [] a b = tt
   all-turns i f (j ∷ is) a b =
       (omega (arith, turn-insert (i .start) (coordOf (coordsOf s) i) f, turn-insert (j .start) (coordOf (coordsOf s) j) (a .0), b .0), all-turns i f is (a .1) (b .1))
 
-  asc-turns : (is : List Interval) → Each Fits is → Asc (startsOf is) → Asc (map turn (map (insertKey s) is))
+  asc-turns : (is : List Interval) → Each Fits is → Asc (startsOf is) → Asc (map turn (map (insertKey (coordsOf s)) is))
   asc-turns [] a r = tt
   asc-turns (i ∷ is) a r = (all-turns i (a .0) is (a .1) (r .0), asc-turns is (a .1) (r .1))
 

@@ -1,5 +1,6 @@
 -- The laws of the score. The union is the one list that ascends strictly and has the members of both, so that a score asks only which hashes
--- are active, not how often or in which order they are listed; and a hash's coordinate number is its place in such a list.
+-- are active, not how often or in which order they are listed. A hash's coordinate number is its place in such a list, so that what is counted by
+-- coordinate numbers through the pivot is the score.
 -- Assumes nothing.
 use Prim.Native.Nat.{ℕ, zero, suc, _+_, _-_, _≤_, _<_}
 use native.Mathlib.Nat.{le-of-suc-le-suc, not-suc-le-zero, suc-add}
@@ -21,12 +22,6 @@ use Rattle.rules.specs.Script.{active, pivotOf, sharedOf}
 pub cases : (t : Bool) → (t ≡ true) ⊎ (t ≡ false)
 cases true = inl refl
 cases false = inr refl
-
--- two tests that pass alike are one
-pub same-test : (a b : Bool) → (a ≡ true → b ≡ true) → (b ≡ true → a ≡ true) → a ≡ b
-same-test true b f g = sym (f refl)
-same-test false true f g = g refl
-same-test false false f g = refl
 
 -- ---- members
 
