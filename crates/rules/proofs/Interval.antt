@@ -25,49 +25,25 @@ use Rattle.rules.specs.Limits.{queryLimit, itemLimit}
 use Rattle.rules.specs.Checks.{refuse, orElse, intervalSizes, sweepOrders, sweepTable, intervalInput, sweepNeeds, keysNeed}
 use Rattle.rules.specs.Refusals.{SweepRoom, need, intervalInputIn, intervalVerdict, sweepAnswerOf, intervalCall}
 use Rattle.rules.specs.Calls.{intervalPremises}
-use Rattle.rules.proofs.Score.{cases, count-most, length-filter, member-all, member-union, number-fits, length-union}
+use Rattle.rules.proofs.Score.{cases, length-filter, member-all, member-union, number-fits, length-union}
 use Rattle.rules.proofs.Sweep.{runs-best}
-use Rattle.rules.proofs.IntervalEvents.{Each, Good, Key, on, inserts, deletes, lastKey, past-last, later-all, event-keys, event-order, event-cover}
+use Rattle.rules.proofs.IntervalEach.{Each, each-map, each-both, each-all, each-passes, each-count}
+use Rattle.rules.proofs.IntervalEvents.{Good, Key, on, inserts, deletes, lastKey, past-last, later-all, event-keys, event-order, event-cover}
 use Rattle.rules.proofs.IntervalActive.{length-inserted, inserted-at, begun-on}
 use Rattle.rules.proofs.IntervalSpans.{Swept, strict-coords, spans-runs}
 
 -- ---- what is known of the taken intervals
 
-each-map : (P Q : Interval → Type 0) → ((i : Interval) → P i → Q i) → (is : List Interval) → Each P is → Each Q is
-each-map P Q f [] a = tt
-each-map P Q f (i ∷ is) a = (f i (a .0), each-map P Q f is (a .1))
-
-each-both : (P Q : Interval → Type 0) (is : List Interval) → Each P is → Each Q is → Each (λ i. P i × Q i) is
-each-both P Q [] a b = tt
-each-both P Q (i ∷ is) a b = ((a .0, b .0), each-both P Q is (a .1) (b .1))
-
-each-filter : (t : Interval → Bool) (is : List Interval) → Each (λ i. t i ≡ true) (filter t is)
-unfolding filter pick
-each-filter t [] = tt
-each-filter t (i ∷ is) = ⊎-elim (λ (e : t i ≡ true). rw e (e, each-filter t is)) (λ (e : t i ≡ false). rw e (each-filter t is)) (cases (t i))
-
--- where as many pass as there are, each passes
-each-count : (t : Interval → Bool) (is : List Interval) → count t is ≡ length is → Each (λ i. t i ≡ true) is
-unfolding count pick
-each-count t [] e = tt
-each-count t (i ∷ is) e =
-    ⊎-elim (λ (f : t i ≡ true). (f, each-count t is (omega (arith, rw f at e)))) (λ (f : t i ≡ false). absurd (omega (arith, rw f at e, count-most t is))) (cases (t i))
-
-each-hash : (P : ℕ → Type 0) (is : List Interval) → All P (hashesOf is) → Each (λ i. P (i .hash)) is
-unfolding hashesOf
-each-hash P [] a = tt
-each-hash P (i ∷ is) a = (a .0, each-hash P is (a .1))
-
 pub taken-members : (s : Sweep) → Each (λ i. member (i .hash) (coordsOf s) ≡ true) (taken s)
-unfolding coordsOf
+unfolding coordsOf hashesOf
 taken-members s =
-    each-hash (λ h. member h (coordsOf s) ≡ true) (taken s)
+    each-all (λ h. member h (coordsOf s) ≡ true) (λ i. i .hash) (taken s)
     (member-all (λ h. member h (coordsOf s) ≡ true) (hashesOf (taken s))
     (λ h m. member-union h (s .query) (hashesOf (taken s)) ∙ rw m (or-true (member h (s .query)))))
 
 pub taken-passes : (s : Sweep) → Each (λ i. isTaken s i ≡ true) (taken s)
 unfolding taken
-taken-passes s = each-filter (isTaken s) (intervalsOf (s .hashes) (s .starts) (s .ends))
+taken-passes s = each-passes (isTaken s) (intervalsOf (s .hashes) (s .starts) (s .ends))
 
 good-one : (s : Sweep) (i : Interval) → (isTaken s i ≡ true) × ((ltb (i .start) (i .end) ≡ true) × (member (i .hash) (coordsOf s) ≡ true)) → Good s (coordsOf s) i
 unfolding isTaken

@@ -19,7 +19,8 @@ use Rattle.rules.specs.Score.{numberOf}
 use Rattle.rules.specs.Script.{stepped, active}
 use Rattle.rules.specs.Interval.{Interval, hashesOf, inserted, covers}
 use Rattle.rules.proofs.Score.{cases, number-fits, number-only, member-active}
-use Rattle.rules.proofs.IntervalEvents.{Each, coordOf, on}
+use Rattle.rules.proofs.IntervalEach.{Each}
+use Rattle.rules.proofs.IntervalEvents.{coordOf, on}
 
 -- ---- the hashes of the intervals on at p
 

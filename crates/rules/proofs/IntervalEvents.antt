@@ -20,6 +20,7 @@ use Rattle.rules.specs.Lists.{count}
 use Rattle.rules.specs.Score.{numberOf}
 use Rattle.rules.specs.Sweep.{Sweep}
 use Rattle.rules.specs.Interval.{Interval, eventKey, eventAt, eventKind, eventCoord, eventsOf, events, taken, coordsOf, covers}
+use Rattle.rules.proofs.IntervalEach.{Each}
 use Rattle.rules.proofs.Score.{cases, count-append}
 
 -- ---- the parts of a key
@@ -117,20 +118,29 @@ two-events t true false k l = omega arith
 two-events t false true k l = omega arith
 two-events t false false k l = omega arith
 
--- P holds of each interval
-abbrev pub Each : (Interval → Type 0) → List Interval → Type 0
-Each P [] = Unit {0}
-Each P (i ∷ is) = P i × Each P is
+abbrev pub coordOf : List ℕ → Interval → ℕ
+coordOf coords i = numberOf coords (i .hash)
+
+-- later starts, and ends after range start, up to range end
+abbrev pub startsLater : Sweep → Interval → Bool
+startsLater s i = ltb (s .range .start) (i .start) && leb (i .start) (s .range .end)
+
+abbrev pub endsLater : Sweep → Interval → Bool
+endsLater s i = ltb (s .range .start) (i .end) && leb (i .end) (s .range .end)
+
+-- and their keys
+abbrev pub insertKey : List ℕ → Interval → ℕ
+insertKey coords i = eventKey (i .start) 1 (coordOf coords i)
+
+abbrev pub deleteKey : List ℕ → Interval → ℕ
+deleteKey coords i = eventKey (i .end) 0 (coordOf coords i)
 
 -- what the sweep knows of a taken interval that ends after it starts
 pub record Good (s : Sweep) (coords : List ℕ) (i : Interval) : Type 0 where
   pub begins : i .start ≤ s .range .end
   pub lasts : s .range .start < i .end
   pub forward : i .start < i .end
-  pub fits : numberOf coords (i .hash) < length coords
-
-abbrev pub coordOf : List ℕ → Interval → ℕ
-coordOf coords i = numberOf coords (i .hash)
+  pub fits : coordOf coords i < length coords
 
 -- on at p, and on at range end, with the coordinate c
 unfoldable pub on : List ℕ → ℕ → ℕ → Interval → Bool
@@ -166,20 +176,20 @@ module _ (s : Sweep) (coords : List ℕ) (small : length coords ≤ 65536) (c : 
   narrow = omega (arith, g .fits)
 
   module _ (place : ℕ) where
-    one-insert : count (later place (inserts c)) (eventsOf s coords i) ≡ pick (ltb (s .range .start) (i .start) && (ltb place (eventKey (i .start) 1 (coordOf coords i)) && eqb (coordOf coords i) c)) 1 0
+    one-insert : count (later place (inserts c)) (eventsOf s coords i) ≡ pick (ltb (s .range .start) (i .start) && (ltb place (insertKey coords i) && eqb (coordOf coords i) c)) 1 0
     unfolding eventsOf pick
     one-insert =
-        two-events (later place (inserts c)) (ltb (s .range .start) (i .start) && leb (i .start) (s .range .end))
-        (ltb (s .range .start) (i .end) && leb (i .end) (s .range .end)) (eventKey (i .start) 1 (coordOf coords i)) (eventKey (i .end) 0 (coordOf coords i)) ∙
+        two-events (later place (inserts c)) (startsLater s i)
+        (endsLater s i) (insertKey coords i) (deleteKey coords i) ∙
         rw (insert-inserts place c (i .start) (coordOf coords i) narrow, delete-inserts place c (i .end) (coordOf coords i) narrow, le-leb (i .start) (s .range .end) (g .begins), and-true, and-false)
         (omega arith)
 
-    one-delete : pick (stays s coords c i) 1 0 + count (later place (deletes c)) (eventsOf s coords i) ≡ pick ((ltb (s .range .end) (i .end) || ltb place (eventKey (i .end) 0 (coordOf coords i))) && eqb (coordOf coords i) c) 1 0
+    one-delete : pick (stays s coords c i) 1 0 + count (later place (deletes c)) (eventsOf s coords i) ≡ pick ((ltb (s .range .end) (i .end) || ltb place (deleteKey coords i)) && eqb (coordOf coords i) c) 1 0
     unfolding eventsOf stays pick
     one-delete =
         ap (λ (n : ℕ). pick (stays s coords c i) 1 0 + n)
-        (two-events (later place (deletes c)) (ltb (s .range .start) (i .start) && leb (i .start) (s .range .end))
-        (ltb (s .range .start) (i .end) && leb (i .end) (s .range .end)) (eventKey (i .start) 1 (coordOf coords i)) (eventKey (i .end) 0 (coordOf coords i))) ∙
+        (two-events (later place (deletes c)) (startsLater s i)
+        (endsLater s i) (insertKey coords i) (deleteKey coords i)) ∙
         rw (insert-deletes place c (i .start) (coordOf coords i) narrow, delete-deletes place c (i .end) (coordOf coords i) narrow, and-false, lt-ltb (s .range .start) (i .end) (g .lasts))
         (⊎-elim (λ (e : ltb (s .range .end) (i .end) ≡ true). rw (e, lt-leb (i .end) (s .range .end) (ltb-true (s .range .end) (i .end) e)) (omega arith))
         (λ (e : ltb (s .range .end) (i .end) ≡ false). rw (e, le-leb (i .end) (s .range .end) (ltb-false (s .range .end) (i .end) e)) (omega arith))
@@ -189,12 +199,12 @@ module _ (s : Sweep) (coords : List ℕ) (small : length coords ≤ 65536) (c : 
     one-balance : count (later place (inserts c)) (eventsOf s coords i) ≤ pick (stays s coords c i) 1 0 + count (later place (deletes c)) (eventsOf s coords i)
     unfolding pick
     one-balance = rw (one-insert, one-delete)
-        (⊎-elim (λ (e : ltb place (eventKey (i .start) 1 (coordOf coords i)) ≡ true). rw (e, lt-ltb place (eventKey (i .end) 0 (coordOf coords i)) (below e), or-true) (pick-and (ltb (s .range .start) (i .start)) (eqb (coordOf coords i) c)))
-        (λ (e : ltb place (eventKey (i .start) 1 (coordOf coords i)) ≡ false). rw (e, and-false) (omega arith))
-        (cases (ltb place (eventKey (i .start) 1 (coordOf coords i)))))
+        (⊎-elim (λ (e : ltb place (insertKey coords i) ≡ true). rw (e, lt-ltb place (deleteKey coords i) (below e), or-true) (pick-and (ltb (s .range .start) (i .start)) (eqb (coordOf coords i) c)))
+        (λ (e : ltb place (insertKey coords i) ≡ false). rw (e, and-false) (omega arith))
+        (cases (ltb place (insertKey coords i))))
       where
-        below : ltb place (eventKey (i .start) 1 (coordOf coords i)) ≡ true → place < eventKey (i .end) 0 (coordOf coords i)
-        below e = omega (arith, ltb-true place (eventKey (i .start) 1 (coordOf coords i)) e, key-order (i .start) (i .end) (coordOf coords i) (g .forward))
+        below : ltb place (insertKey coords i) ≡ true → place < deleteKey coords i
+        below e = omega (arith, ltb-true place (insertKey coords i) e, key-order (i .start) (i .end) (coordOf coords i) (g .forward))
 
   -- beyond the last key of p, the intervals on at p make the difference
   one-cover : (p : ℕ) → s .range .start ≤ p → p ≤ s .range .end → pick (on coords p c i) 1 0 + count (later (lastKey p) (inserts c)) (eventsOf s coords i) ≡ pick (stays s coords c i) 1 0 + count (later (lastKey p) (deletes c)) (eventsOf s coords i)
@@ -234,10 +244,10 @@ module _ (s : Sweep) (coords : List ℕ) (small : length coords ≤ 65536) where
   one-keys : (i : Interval) → Good s coords i → All (Key s coords) (eventsOf s coords i)
   unfolding eventsOf
   one-keys i g =
-      all-append (Key s coords) (pick (ltb (s .range .start) (i .start) && leb (i .start) (s .range .end)) (eventKey (i .start) 1 (coordOf coords i) ∷ []) [])
-      (pick (ltb (s .range .start) (i .end) && leb (i .end) (s .range .end)) (eventKey (i .end) 0 (coordOf coords i) ∷ []) [])
-      (all-pick (Key s coords) (ltb (s .range .start) (i .start) && leb (i .start) (s .range .end)) (eventKey (i .start) 1 (coordOf coords i)) (λ e. a-key i g (i .start) 1 (omega arith) e))
-      (all-pick (Key s coords) (ltb (s .range .start) (i .end) && leb (i .end) (s .range .end)) (eventKey (i .end) 0 (coordOf coords i)) (λ e. a-key i g (i .end) 0 (omega arith) e))
+      all-append (Key s coords) (pick (startsLater s i) (insertKey coords i ∷ []) [])
+      (pick (endsLater s i) (deleteKey coords i ∷ []) [])
+      (all-pick (Key s coords) (startsLater s i) (insertKey coords i) (λ e. a-key i g (i .start) 1 (omega arith) e))
+      (all-pick (Key s coords) (endsLater s i) (deleteKey coords i) (λ e. a-key i g (i .end) 0 (omega arith) e))
 
   all-keys : (is : List Interval) → Each (Good s coords) is → All (Key s coords) (unsorted s coords is)
   unfolding flatten

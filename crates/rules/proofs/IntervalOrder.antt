@@ -2,7 +2,7 @@
 -- inserts. It holds because two steps of one kind commute, and no span begins between keys of one position. So the sweep need not sort by coordinate:
 -- inserts in the order of their starts and deletes in the order of their ends may be merged.
 -- Assumes nothing.
-use Prim.Native.Nat.{ℕ, _+_, _-_, _/_, _%_, _≤_, _<_, min, max}
+use Prim.Native.Nat.{ℕ, _+_, _-_, _/_, _≤_, _<_, min, max}
 use native.Mathlib.Omega.{arith}
 use mathlib.Core.Path.{_≡_, refl, sym, ap, _∙_}
 use mathlib.Core.Logic.{⊎-elim, _≢_}
@@ -42,7 +42,7 @@ turn-at j k e = omega arith
 
 turn-kind : (j k : ℕ) → turn j ≡ turn k → eventKind j ≡ eventKind k
 unfolding eventKind
-turn-kind j k e = ap (λ (n : ℕ). n % 2) e
+turn-kind j k e = omega arith
 
 module _ (s : Sweep) where
   swap-keys : (from : ℕ) (counts : List ℕ) (j k : ℕ) (ks : List ℕ) → turn j ≡ turn k → spansFrom s from counts (j ∷ k ∷ ks) ≡ spansFrom s from counts (k ∷ j ∷ ks)

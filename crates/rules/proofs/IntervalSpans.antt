@@ -22,7 +22,8 @@ use Rattle.rules.specs.Sweep.{Sweep, Scored}
 use Rattle.rules.specs.Interval.{taken, coordsOf, hashesOf, eventAt, eventKind, eventCoord, events, span, spansFrom, covers, scoredPosition}
 use Rattle.rules.proofs.Score.{cases, strict-union, score-same}
 use Rattle.rules.proofs.Sweep.{scored, Run, Runs, none, join, run-up}
-use Rattle.rules.proofs.IntervalEvents.{Each, Good, Key, on, stays, inserts, deletes, later, later-skip, later-all, later-most, lastKey, at-mono, past-last, to-last, event-balance, event-cover}
+use Rattle.rules.proofs.IntervalEach.{Each}
+use Rattle.rules.proofs.IntervalEvents.{Good, Key, on, stays, inserts, deletes, later, later-skip, later-all, later-most, lastKey, at-mono, past-last, to-last, event-balance, event-cover}
 use Rattle.rules.proofs.IntervalActive.{active-on, length-stepped, stepped-same, stepped-other}
 
 -- the sweep after the keys up to `last`: the rest of the keys, and the counts

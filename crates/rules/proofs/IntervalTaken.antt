@@ -53,10 +53,10 @@ filter-both t u [] = refl
 filter-both t u (x ∷ xs) =
     ⊎-elim (λ (e : t x ≡ true). rw (e, filter-both t u xs)) (λ (e : t x ≡ false). rw e (filter-both t u xs)) (cases (t x))
 
-abbrev startsOf : List Interval → List ℕ
+abbrev pub startsOf : List Interval → List ℕ
 startsOf is = map (λ (i : Interval). i .start) is
 
-starts-are : (hs ss es : List ℕ) → length ss ≡ length hs → length es ≡ length hs → startsOf (intervalsOf hs ss es) ≡ ss
+pub starts-are : (hs ss es : List ℕ) → length ss ≡ length hs → length es ≡ length hs → startsOf (intervalsOf hs ss es) ≡ ss
 unfolding intervalsOf
 starts-are [] [] es l m = refl
 starts-are [] (p ∷ ss) es l m = absurd (omega arith)

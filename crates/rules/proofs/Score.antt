@@ -1,7 +1,8 @@
 -- The laws of the score. The union is the one list that ascends strictly and has the members of both, so that a score asks only which hashes
--- are active, not how often or in which order they are listed; and a hash's coordinate number is its place in such a list.
+-- are active, not how often or in which order they are listed. A hash's coordinate number is its place in such a list, so that what is counted by
+-- coordinate numbers through the pivot is the score.
 -- Assumes nothing.
-use Prim.Native.Nat.{ℕ, zero, suc, _+_, _-_, _≤_, _<_}
+use Prim.Native.Nat.{ℕ, zero, suc, _+_, _-_, _≤_, _<_, min, max}
 use native.Mathlib.Nat.{le-of-suc-le-suc, not-suc-le-zero, suc-add}
 use native.Mathlib.Omega.{arith}
 use mathlib.Core.Path.{_≡_, refl, sym, ap, subst, _∙_}
@@ -13,7 +14,9 @@ use lib.Dec.{ltb, leb, eqb}
 use borrow.Author.Tests.{ltb-true, ltb-false, eqb-true, eqb-false, lt-ltb, le-ltb, le-leb, lt-leb, eq-eqb}
 use Rattle.base.specs.Pick.{pick}
 use Rattle.base.specs.Lists.{All, StrictAsc}
+use Rattle.base.specs.Sort.{insert, sortOf}
 use Rattle.base.proofs.Lists.{all-map}
+use Rattle.base.proofs.Order.{lt-or-ge}
 use Rattle.rules.specs.Lists.{member, count, filter}
 use Rattle.rules.specs.Score.{add, ascending, union, inBoth, score, numberOf, pivotHash}
 use Rattle.rules.specs.Script.{active, pivotOf, sharedOf}
@@ -21,12 +24,6 @@ use Rattle.rules.specs.Script.{active, pivotOf, sharedOf}
 pub cases : (t : Bool) → (t ≡ true) ⊎ (t ≡ false)
 cases true = inl refl
 cases false = inr refl
-
--- two tests that pass alike are one
-pub same-test : (a b : Bool) → (a ≡ true → b ≡ true) → (b ≡ true → a ≡ true) → a ≡ b
-same-test true b f g = sym (f refl)
-same-test false true f g = g refl
-same-test false false f g = refl
 
 -- ---- members
 
@@ -57,6 +54,30 @@ getD-member (x ∷ xs) (suc i) l =
 -- what lies below all of a list is no member
 pub below-all : (h : ℕ) (xs : List ℕ) → All (λ y. h < y) xs → member h xs ≡ false
 below-all h xs a = ⊎-elim (λ (e : member h xs ≡ true). absurd (omega (arith, all-member (λ y. h < y) xs a h e))) (λ (e : member h xs ≡ false). e) (cases (member h xs))
+
+or-swap : (a b c : Bool) → (a || (b || c)) ≡ (b || (a || c))
+or-swap true true c = refl
+or-swap true false c = refl
+or-swap false b c = refl
+
+member-insert : (h x : ℕ) (ys : List ℕ) → member h (insert x ys) ≡ (eqb h x || member h ys)
+unfolding member insert
+member-insert h x [] = refl
+member-insert h x (y ∷ ys) =
+    ⊎-elim (λ (l : x < y).
+    let lo : min x y ≡ x = omega arith in
+    let hi : max x y ≡ y = omega arith in
+    rw (lo, hi, member-insert h y ys))
+    (λ (l : y ≤ x).
+    let lo : min x y ≡ y = omega arith in
+    let hi : max x y ≡ x = omega arith in
+    rw (lo, hi, member-insert h x ys) (or-swap (eqb h y) (eqb h x) (member h ys))) (lt-or-ge x y)
+
+-- sorting keeps the members
+pub member-sort : (h : ℕ) (xs : List ℕ) → member h (sortOf xs) ≡ member h xs
+unfolding member sortOf
+member-sort h [] = refl
+member-sort h (x ∷ xs) = member-insert h x (sortOf xs) ∙ ap (λ (t : Bool). eqb h x || t) (member-sort h xs)
 
 -- ---- counting and filtering
 
@@ -106,11 +127,6 @@ strict-filter t (x ∷ xs) r =
     ⊎-elim (λ (e : t x ≡ true). rw e (all-filter (λ y. x < y) t xs (r .0), strict-filter t xs (r .1))) (λ (e : t x ≡ false). rw e (strict-filter t xs (r .1))) (cases (t x))
 
 -- ---- ascending
-
-or-swap : (a b c : Bool) → (a || (b || c)) ≡ (b || (a || c))
-or-swap true true c = refl
-or-swap true false c = refl
-or-swap false b c = refl
 
 or-twice : (a b : Bool) → (a || b) ≡ (a || (a || b))
 or-twice true b = refl
