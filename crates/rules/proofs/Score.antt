@@ -1,43 +1,29 @@
--- The laws of the score. The union is the one list that rises strictly and has the members of both, so that a score asks only which hashes
--- are active, not how often or in which order they are listed; and a hash's coordinate number is its place in such a list.
+-- The laws of the score. The union is the one list that ascends strictly and has the members of both, so that a score asks only which hashes
+-- are active, not how often or in which order they are listed. A hash's coordinate number is its place in such a list, so that what is counted by
+-- coordinate numbers through the pivot is the score.
 -- Assumes nothing.
-use Prim.Native.Nat.{ℕ, zero, suc, _+_, _-_, _≤_, _<_}
-use native.Mathlib.Nat.{le-of-suc-le-suc, not-suc-le-zero, eq-or-lt-of-le}
+use Prim.Native.Nat.{ℕ, zero, suc, _+_, _-_, _≤_, _<_, min, max}
+use native.Mathlib.Nat.{le-of-suc-le-suc, not-suc-le-zero, suc-add}
 use native.Mathlib.Omega.{arith}
 use mathlib.Core.Path.{_≡_, refl, sym, ap, subst, _∙_}
 use mathlib.Core.Logic.{_⊎_, inl, inr, ⊎-elim}
-use mathlib.Core.Bool.{Bool, true, false, _||_, _&&_, false≢true}
+use mathlib.Core.Bool.{Bool, true, false, _||_, _&&_, false≢true, and-eq-true-iff, and-true, and-false, or-false}
 use mathlib.Core.List.{List, [], _∷_, _++_}
-use lib.ListN.{length, take, getD, length-append}
-use lib.Dec.{ltb, eqb}
-use borrow.Author.Tests.{ltb-true, ltb-false, eqb-true, eqb-false, lt-ltb, le-ltb, eq-eqb, ne-eqb}
+use lib.ListN.{length, take, getD, length-append, length-take}
+use lib.Dec.{ltb, leb, eqb}
+use borrow.Author.Tests.{ltb-true, ltb-false, eqb-true, eqb-false, lt-ltb, le-ltb, le-leb, lt-leb, eq-eqb}
 use Rattle.base.specs.Pick.{pick}
-use Rattle.rules.specs.Lists.{member, count}
+use Rattle.base.specs.Lists.{All, StrictAsc}
+use Rattle.base.specs.Sort.{insert, sortOf}
+use Rattle.base.proofs.Lists.{all-map}
+use Rattle.base.proofs.Order.{lt-or-ge}
+use Rattle.rules.specs.Lists.{member, count, filter}
 use Rattle.rules.specs.Score.{add, ascending, union, inBoth, score, numberOf, pivotHash}
+use Rattle.rules.specs.Script.{active, pivotOf, sharedOf}
 
 pub cases : (t : Bool) → (t ≡ true) ⊎ (t ≡ false)
 cases true = inl refl
 cases false = inr refl
-
--- two tests that pass alike are one
-pub same-test : (a b : Bool) → (a ≡ true → b ≡ true) → (b ≡ true → a ≡ true) → a ≡ b
-same-test true b f g = sym (f refl)
-same-test false true f g = g refl
-same-test false false f g = refl
-
--- P holds of each element
-abbrev pub All : {A : Type 0} → (A → Type 0) → List A → Type 0
-All P [] = Unit {0}
-All P (x ∷ xs) = P x × All P xs
-
-pub all-map : {A : Type 0} (P Q : A → Type 0) → ((x : A) → P x → Q x) → (xs : List A) → All P xs → All Q xs
-all-map P Q f [] a = tt
-all-map P Q f (x ∷ xs) a = (f x (a .0), all-map P Q f xs (a .1))
-
--- each element is below every later one
-abbrev pub Rising : List ℕ → Type 0
-Rising [] = Unit {0}
-Rising (x ∷ xs) = All (λ y. x < y) xs × Rising xs
 
 -- ---- members
 
@@ -69,12 +55,78 @@ getD-member (x ∷ xs) (suc i) l =
 pub below-all : (h : ℕ) (xs : List ℕ) → All (λ y. h < y) xs → member h xs ≡ false
 below-all h xs a = ⊎-elim (λ (e : member h xs ≡ true). absurd (omega (arith, all-member (λ y. h < y) xs a h e))) (λ (e : member h xs ≡ false). e) (cases (member h xs))
 
--- ---- ascending
-
 or-swap : (a b c : Bool) → (a || (b || c)) ≡ (b || (a || c))
 or-swap true true c = refl
 or-swap true false c = refl
 or-swap false b c = refl
+
+member-insert : (h x : ℕ) (ys : List ℕ) → member h (insert x ys) ≡ (eqb h x || member h ys)
+unfolding member insert
+member-insert h x [] = refl
+member-insert h x (y ∷ ys) =
+    ⊎-elim (λ (l : x < y).
+    let lo : min x y ≡ x = omega arith in
+    let hi : max x y ≡ y = omega arith in
+    rw (lo, hi, member-insert h y ys))
+    (λ (l : y ≤ x).
+    let lo : min x y ≡ y = omega arith in
+    let hi : max x y ≡ x = omega arith in
+    rw (lo, hi, member-insert h x ys) (or-swap (eqb h y) (eqb h x) (member h ys))) (lt-or-ge x y)
+
+-- sorting keeps the members
+pub member-sort : (h : ℕ) (xs : List ℕ) → member h (sortOf xs) ≡ member h xs
+unfolding member sortOf
+member-sort h [] = refl
+member-sort h (x ∷ xs) = member-insert h x (sortOf xs) ∙ ap (λ (t : Bool). eqb h x || t) (member-sort h xs)
+
+-- ---- counting and filtering
+
+-- the same number of elements pass two tests that agree
+pub count-same : {A : Type 0} (t u : A → Bool) → ((x : A) → t x ≡ u x) → (xs : List A) → count t xs ≡ count u xs
+unfolding count
+count-same t u e [] = refl
+count-same t u e (x ∷ xs) = rw (e x, count-same t u e xs)
+
+pub count-append : {A : Type 0} (t : A → Bool) (xs ys : List A) → count t (xs ++ ys) ≡ count t xs + count t ys
+unfolding count
+count-append t [] ys = omega arith
+count-append t (x ∷ xs) ys = omega (arith, count-append t xs ys)
+
+pub count-most : {A : Type 0} (t : A → Bool) (xs : List A) → count t xs ≤ length xs
+unfolding count pick
+count-most t [] = omega arith
+count-most t (x ∷ xs) =
+    ⊎-elim (λ (e : t x ≡ true). rw e (omega (arith, count-most t xs))) (λ (e : t x ≡ false). rw e (omega (arith, count-most t xs))) (cases (t x))
+
+pub count-filter : {A : Type 0} (t : A → Bool) (xs : List A) → count t xs ≡ length (filter t xs)
+unfolding count filter pick
+count-filter t [] = refl
+count-filter t (x ∷ xs) =
+    ⊎-elim (λ (e : t x ≡ true). rw (e, count-filter t xs) (omega arith)) (λ (e : t x ≡ false). rw (e, count-filter t xs) (omega arith)) (cases (t x))
+
+pub length-filter : {A : Type 0} (t : A → Bool) (xs : List A) → length (filter t xs) ≤ length xs
+length-filter t xs = omega (arith, count-filter t xs, count-most t xs)
+
+pub member-filter : (t : ℕ → Bool) (h : ℕ) (xs : List ℕ) → member h (filter t xs) ≡ (t h && member h xs)
+unfolding member filter pick
+member-filter t h [] = sym (and-false (t h))
+member-filter t h (x ∷ xs) =
+    ⊎-elim (λ (f : eqb h x ≡ true). let same : h ≡ x = eqb-true h x f in ⊎-elim (λ (e : t x ≡ true). rw (e, f, same, e)) (λ (e : t x ≡ false). rw (e, member-filter t h xs, same, e)) (cases (t x)))
+    (λ (f : eqb h x ≡ false). ⊎-elim (λ (e : t x ≡ true). rw (e, f) (member-filter t h xs)) (λ (e : t x ≡ false). rw (e, f) (member-filter t h xs)) (cases (t x)))
+    (cases (eqb h x))
+
+all-filter : (P : ℕ → Type 0) (t : ℕ → Bool) (xs : List ℕ) → All P xs → All P (filter t xs)
+unfolding filter pick
+all-filter P t [] a = tt
+all-filter P t (x ∷ xs) a = ⊎-elim (λ (e : t x ≡ true). rw e (a .0, all-filter P t xs (a .1))) (λ (e : t x ≡ false). rw e (all-filter P t xs (a .1))) (cases (t x))
+
+pub strict-filter : (t : ℕ → Bool) (xs : List ℕ) → StrictAsc xs → StrictAsc (filter t xs)
+unfolding filter pick
+strict-filter t [] r = tt
+strict-filter t (x ∷ xs) r =
+    ⊎-elim (λ (e : t x ≡ true). rw e (all-filter (λ y. x < y) t xs (r .0), strict-filter t xs (r .1))) (λ (e : t x ≡ false). rw e (strict-filter t xs (r .1))) (cases (t x))
+
+-- ---- ascending
 
 or-twice : (a b : Bool) → (a || b) ≡ (a || (a || b))
 or-twice true b = refl
@@ -103,21 +155,21 @@ all-add P g (x ∷ xs) p a =
     (λ (e : ltb g x ≡ false). rw e (⊎-elim (λ (f : eqb g x ≡ true). rw f a) (λ (f : eqb g x ≡ false). rw f (a .0, all-add P g xs p (a .1))) (cases (eqb g x))))
     (cases (ltb g x))
 
-rising-add : (g : ℕ) (xs : List ℕ) → Rising xs → Rising (add g xs)
+strict-add : (g : ℕ) (xs : List ℕ) → StrictAsc xs → StrictAsc (add g xs)
 unfolding add pick
-rising-add g [] r = (tt, tt)
-rising-add g (x ∷ xs) r =
+strict-add g [] r = (tt, tt)
+strict-add g (x ∷ xs) r =
     ⊎-elim (λ (e : ltb g x ≡ true). rw e ((ltb-true g x e, all-map (λ y. x < y) (λ y. g < y) (λ y l. omega (arith, ltb-true g x e)) xs (r .0)), r))
     (λ (e : ltb g x ≡ false).
     rw e
     (⊎-elim (λ (f : eqb g x ≡ true). rw f r)
-    (λ (f : eqb g x ≡ false). rw f (all-add (λ y. x < y) g xs (omega (arith, ltb-false g x e, eqb-false g x f)) (r .0), rising-add g xs (r .1))) (cases (eqb g x))))
+    (λ (f : eqb g x ≡ false). rw f (all-add (λ y. x < y) g xs (omega (arith, ltb-false g x e, eqb-false g x f)) (r .0), strict-add g xs (r .1))) (cases (eqb g x))))
     (cases (ltb g x))
 
-pub rising-ascending : (xs : List ℕ) → Rising (ascending xs)
+pub strict-ascending : (xs : List ℕ) → StrictAsc (ascending xs)
 unfolding ascending
-rising-ascending [] = tt
-rising-ascending (x ∷ xs) = rising-add x (ascending xs) (rising-ascending xs)
+strict-ascending [] = tt
+strict-ascending (x ∷ xs) = strict-add x (ascending xs) (strict-ascending xs)
 
 length-add : (g : ℕ) (xs : List ℕ) → length (add g xs) ≤ suc (length xs)
 unfolding add pick
@@ -132,52 +184,55 @@ unfolding ascending
 length-ascending [] = omega arith
 length-ascending (x ∷ xs) = omega (arith, length-add x (ascending xs), length-ascending xs)
 
--- ---- two rising lists with the same members are one
+-- ---- two strictly ascending lists with the same members are one
 
-rising-first : (x y : ℕ) (xs ys : List ℕ) → Rising (y ∷ ys) → ((h : ℕ) → member h (x ∷ xs) ≡ member h (y ∷ ys)) → y ≤ x
+strict-first : (x y : ℕ) (xs ys : List ℕ) → StrictAsc (y ∷ ys) → ((h : ℕ) → member h (x ∷ xs) ≡ member h (y ∷ ys)) → y ≤ x
 unfolding member
-rising-first x y xs ys r e =
+strict-first x y xs ys r e =
     all-member (λ z. y ≤ z) (y ∷ ys) (omega arith, all-map (λ z. y < z) (λ z. y ≤ z) (λ z l. omega arith) ys (r .0)) x (sym (e x) ∙ rw (eq-eqb x x refl))
 
-pub rising-same : (xs ys : List ℕ) → Rising xs → Rising ys → ((h : ℕ) → member h xs ≡ member h ys) → xs ≡ ys
+pub strict-same : (xs ys : List ℕ) → StrictAsc xs → StrictAsc ys → ((h : ℕ) → member h xs ≡ member h ys) → xs ≡ ys
 unfolding member
-rising-same [] [] r s e = refl
-rising-same [] (y ∷ ys) r s e = absurd (false≢true (e y ∙ rw (eq-eqb y y refl)))
-rising-same (x ∷ xs) [] r s e = absurd (false≢true (sym (e x) ∙ rw (eq-eqb x x refl)))
-rising-same (x ∷ xs) (y ∷ ys) r s e =
-    let same : x ≡ y = omega (arith, rising-first x y xs ys s e, rising-first y x ys xs r (λ h. sym (e h))) in
+strict-same [] [] r s e = refl
+strict-same [] (y ∷ ys) r s e = absurd (false≢true (e y ∙ rw (eq-eqb y y refl)))
+strict-same (x ∷ xs) [] r s e = absurd (false≢true (sym (e x) ∙ rw (eq-eqb x x refl)))
+strict-same (x ∷ xs) (y ∷ ys) r s e =
+    let same : x ≡ y = omega (arith, strict-first x y xs ys s e, strict-first y x ys xs r (λ h. sym (e h))) in
     let rest : (h : ℕ) → member h xs ≡ member h ys = λ h.
     ⊎-elim (λ (f : eqb h x ≡ true).
     let hx : h ≡ x = eqb-true h x f in
     rw hx (below-all x xs (r .0) ∙ sym (rw same (below-all y ys (s .0)))))
     (λ (f : eqb h x ≡ false). let g : eqb h y ≡ false = rw same at f in rw (f, g) at (e h)) (cases (eqb h x)) in
-    let tail : xs ≡ ys = rising-same xs ys (r .1) (s .1) rest in
+    let tail : xs ≡ ys = strict-same xs ys (r .1) (s .1) rest in
     cc
 
 -- ---- the score asks only which hashes are active
 
-pub rising-union : (query active : List ℕ) → Rising (union query active)
+pub strict-union : (query active : List ℕ) → StrictAsc (union query active)
 unfolding union
-rising-union query active = rising-ascending (query ++ active)
+strict-union query active = strict-ascending (query ++ active)
 
 pub member-union : (h : ℕ) (query active : List ℕ) → member h (union query active) ≡ (member h query || member h active)
 unfolding union
 member-union h query active = member-ascending h (query ++ active) ∙ member-append h query active
 
+pub union-left : (h : ℕ) (query active : List ℕ) → member h query ≡ true → member h (union query active) ≡ true
+union-left h query active m = member-union h query active ∙ rw m
+
 pub length-union : (query active : List ℕ) → length (union query active) ≤ length query + length active
 unfolding union
 length-union query active = omega (arith, length-ascending (query ++ active), length-append query active)
 
--- the same number of elements pass two tests that agree
-pub count-same : {A : Type 0} (t u : A → Bool) → ((x : A) → t x ≡ u x) → (xs : List A) → count t xs ≡ count u xs
-unfolding count
-count-same t u e [] = refl
-count-same t u e (x ∷ xs) = rw (e x, count-same t u e xs)
+-- no score passes the number of query hashes
+pub score-most : (query active : List ℕ) → score query active ≤ length query
+unfolding score
+score-most query active =
+    omega (arith, count-most (inBoth query active) (take (length query) (union query active)), length-take (length query) (union query active))
 
 module _ (query a b : List ℕ) (e : (h : ℕ) → member h a ≡ member h b) where
   pub union-same : union query a ≡ union query b
   union-same =
-      rising-same (union query a) (union query b) (rising-union query a) (rising-union query b)
+      strict-same (union query a) (union query b) (strict-union query a) (strict-union query b)
       (λ h. member-union h query a ∙ ap (λ (t : Bool). member h query || t) (e h) ∙ sym (member-union h query b))
 
   pub score-same : score query a ≡ score query b
@@ -192,13 +247,13 @@ module _ (query a b : List ℕ) (e : (h : ℕ) → member h a ≡ member h b) wh
 
 -- ---- the coordinate number of a hash is its place
 
-none-below : (h : ℕ) (cs : List ℕ) → All (λ c. h ≤ c) cs → numberOf cs h ≡ 0
+pub none-below : (h : ℕ) (cs : List ℕ) → All (λ c. h ≤ c) cs → numberOf cs h ≡ 0
 unfolding numberOf count pick
 none-below h [] a = refl
 none-below h (c ∷ cs) a = rw (le-ltb c h (a .0)) (omega (arith, none-below h cs (a .1)))
 
--- a member is the first of a rising list, or lies above it
-first-or-later : (c : ℕ) (cs : List ℕ) → Rising (c ∷ cs) → (h : ℕ) → member h (c ∷ cs) ≡ true → (h ≡ c) ⊎ ((c < h) × (member h cs ≡ true))
+-- a member is the first of a strictly ascending list, or lies above it
+pub first-or-later : (c : ℕ) (cs : List ℕ) → StrictAsc (c ∷ cs) → (h : ℕ) → member h (c ∷ cs) ≡ true → (h ≡ c) ⊎ ((c < h) × (member h cs ≡ true))
 unfolding member
 first-or-later c cs r h m =
     ⊎-elim (λ (e : eqb h c ≡ true). inl (eqb-true h c e))
@@ -206,28 +261,32 @@ first-or-later c cs r h m =
     let later : member h cs ≡ true = rw e at m in
     inr (all-member (λ y. c < y) cs (r .0) h later, later)) (cases (eqb h c))
 
-number-first : (c : ℕ) (cs : List ℕ) → Rising (c ∷ cs) → numberOf (c ∷ cs) c ≡ 0
+pub number-first : (c : ℕ) (cs : List ℕ) → StrictAsc (c ∷ cs) → numberOf (c ∷ cs) c ≡ 0
 unfolding numberOf count pick
 number-first c cs r = none-below c (c ∷ cs) (omega arith, all-map (λ y. c < y) (λ y. c ≤ y) (λ y l. omega arith) cs (r .0))
 
-number-later : (c h : ℕ) (cs : List ℕ) → c < h → numberOf (c ∷ cs) h ≡ suc (numberOf cs h)
+pub number-later : (c h : ℕ) (cs : List ℕ) → c < h → numberOf (c ∷ cs) h ≡ suc (numberOf cs h)
 unfolding numberOf count pick
 number-later c h cs l = rw (lt-ltb c h l) (omega arith)
 
-pub at-number : (cs : List ℕ) → Rising cs → (h : ℕ) → member h cs ≡ true → getD cs (numberOf cs h) 0 ≡ h
+pub number-skip : (c h : ℕ) (cs : List ℕ) → h ≤ c → numberOf (c ∷ cs) h ≡ numberOf cs h
+unfolding numberOf count pick
+number-skip c h cs l = rw (le-ltb c h l) (omega arith)
+
+pub at-number : (cs : List ℕ) → StrictAsc cs → (h : ℕ) → member h cs ≡ true → getD cs (numberOf cs h) 0 ≡ h
 unfolding member
 at-number [] r h m = absurd (false≢true m)
 at-number (c ∷ cs) r h m =
     ⊎-elim (λ (e : h ≡ c). rw (e, number-first c cs r)) (λ l. rw (number-later c h cs (l .0)) (at-number cs (r .1) h (l .1))) (first-or-later c cs r h m)
 
-pub number-fits : (cs : List ℕ) → Rising cs → (h : ℕ) → member h cs ≡ true → numberOf cs h < length cs
+pub number-fits : (cs : List ℕ) → StrictAsc cs → (h : ℕ) → member h cs ≡ true → numberOf cs h < length cs
 unfolding member
 number-fits [] r h m = absurd (false≢true m)
 number-fits (c ∷ cs) r h m =
     ⊎-elim (λ (e : h ≡ c). rw (e, number-first c cs r) (omega arith)) (λ l. omega (arith, number-later c h cs (l .0), number-fits cs (r .1) h (l .1)))
     (first-or-later c cs r h m)
 
-pub number-at : (cs : List ℕ) → Rising cs → (i : ℕ) → i < length cs → numberOf cs (getD cs i 0) ≡ i
+pub number-at : (cs : List ℕ) → StrictAsc cs → (i : ℕ) → i < length cs → numberOf cs (getD cs i 0) ≡ i
 number-at [] r i l = absurd (not-suc-le-zero l)
 number-at (c ∷ cs) r zero l = number-first c cs r
 number-at (c ∷ cs) r (suc i) l =
@@ -235,18 +294,124 @@ number-at (c ∷ cs) r (suc i) l =
     number-later c (getD cs i 0) cs above ∙ ap suc (number-at cs (r .1) i (le-of-suc-le-suc l))
 
 -- numbers tell members apart, and keep their order
-pub number-only : (cs : List ℕ) → Rising cs → (g h : ℕ) → member g cs ≡ true → member h cs ≡ true → numberOf cs g ≡ numberOf cs h → g ≡ h
+pub number-only : (cs : List ℕ) → StrictAsc cs → (g h : ℕ) → member g cs ≡ true → member h cs ≡ true → numberOf cs g ≡ numberOf cs h → g ≡ h
 number-only cs r g h m n e = sym (at-number cs r g m) ∙ ap (λ (i : ℕ). getD cs i 0) e ∙ at-number cs r h n
 
-pub number-order : (cs : List ℕ) → Rising cs → (g h : ℕ) → member g cs ≡ true → g < h → numberOf cs g < numberOf cs h
+pub number-order : (cs : List ℕ) → StrictAsc cs → (g h : ℕ) → member g cs ≡ true → g < h → numberOf cs g < numberOf cs h
 unfolding member
 number-order [] r g h m l = absurd (false≢true m)
 number-order (c ∷ cs) r g h m l =
     ⊎-elim (λ (e : g ≡ c). rw (e, number-first c cs r) (omega (arith, number-later c h cs (rw e at l))))
     (λ k. omega (arith, number-later c g cs (k .0), number-later c h cs (omega (arith, k .0)), number-order cs (r .1) g h (k .1) l)) (first-or-later c cs r g m)
 
-pub getD-rises : (cs : List ℕ) → Rising cs → (i j : ℕ) → i < j → j < length cs → getD cs i 0 < getD cs j 0
-getD-rises [] r i j h l = absurd (not-suc-le-zero l)
-getD-rises (c ∷ cs) r i zero h l = absurd (not-suc-le-zero h)
-getD-rises (c ∷ cs) r zero (suc j) h l = all-member (λ y. c < y) cs (r .0) (getD cs j 0) (getD-member cs j (le-of-suc-le-suc l))
-getD-rises (c ∷ cs) r (suc i) (suc j) h l = getD-rises cs (r .1) i j (le-of-suc-le-suc h) (le-of-suc-le-suc l)
+-- ---- the score by coordinate numbers
+
+-- a list within another is no longer
+pub strict-within : (xs ys : List ℕ) → StrictAsc xs → StrictAsc ys → ((h : ℕ) → member h xs ≡ true → member h ys ≡ true) → length xs ≤ length ys
+strict-within xs ys r s f =
+    let inside : ℕ → Bool = λ h. member h xs in
+    let same : xs ≡ filter inside ys = strict-same xs (filter inside ys) r (strict-filter inside ys s)
+    (λ h. sym (member-filter inside h ys ∙ ⊎-elim (λ (m : member h xs ≡ true). rw (m, f h m)) (λ (m : member h xs ≡ false). rw m) (cases (member h xs)))) in
+    omega (arith, ap length same, length-filter inside ys)
+
+filter-none : (h : ℕ) (xs : List ℕ) → All (λ y. h < y) xs → filter (λ c. leb c h) xs ≡ []
+unfolding filter pick
+filter-none h [] a = refl
+filter-none h (x ∷ xs) a = rw (lt-leb x h (a .0)) (filter-none h xs (a .1))
+
+-- as many as are at most a member are those at most it
+pub take-number : (cs : List ℕ) → StrictAsc cs → (h : ℕ) → member h cs ≡ true → take (numberOf cs h + 1) cs ≡ filter (λ c. leb c h) cs
+unfolding member filter pick
+take-number [] r h m = absurd (false≢true m)
+take-number (c ∷ cs) r h m =
+    ⊎-elim (λ (e : h ≡ c). rw (e, number-first c cs r, le-leb c c (omega arith), filter-none c cs (r .0)))
+    (λ l.
+    rw (number-later c h cs (l .0), suc-add (numberOf cs h) 1, le-leb c h (omega (arith, l .0)))
+    (ap (λ (zs : List ℕ). c ∷ zs) (take-number cs (r .1) h (l .1)))) (first-or-later c cs r h m)
+
+module _ (query ref coords : List ℕ) (strict-query : StrictAsc query) (some : 0 < length query) (strict-coords : StrictAsc coords)
+    (query-in : (h : ℕ) → member h query ≡ true → member h coords ≡ true) (ref-in : (h : ℕ) → member h ref ≡ true → member h coords ≡ true) where
+  union-coords : (h : ℕ) → member h (union query ref) ≡ true → member h coords ≡ true
+  union-coords h m =
+      let either : (member h query || member h ref) ≡ true = sym (member-union h query ref) ∙ m in
+      ⊎-elim (λ (q : member h query ≡ true). query-in h q) (λ (q : member h query ≡ false). ref-in h (rw q at either)) (cases (member h query))
+
+  -- the pivot's place in the union
+  pub union-long : length query ≤ length (union query ref)
+  union-long = strict-within query (union query ref) strict-query (strict-union query ref) (λ h. union-left h query ref)
+
+  pub pivot-member : member (pivotHash query ref) (union query ref) ≡ true
+  unfolding pivotHash
+  pivot-member = getD-member (union query ref) (length query - 1) (omega (arith, union-long))
+
+  pub pivot-number : numberOf (union query ref) (pivotHash query ref) + 1 ≡ length query
+  unfolding pivotHash
+  pivot-number = omega (arith, number-at (union query ref) (strict-union query ref) (length query - 1) (omega (arith, union-long)))
+
+  pub pivot-coord : member (pivotHash query ref) coords ≡ true
+  pivot-coord = union-coords (pivotHash query ref) pivot-member
+
+  -- those in both, at most the pivot
+  lowest : List ℕ → List ℕ
+  lowest xs = filter (inBoth query ref) (filter (λ c. leb c (pivotHash query ref)) xs)
+
+  member-lowest : (xs : List ℕ) → ((h : ℕ) → member h query ≡ true → member h xs ≡ true) → (h : ℕ) → member h (lowest xs) ≡ (inBoth query ref h && leb h (pivotHash query ref))
+  unfolding lowest inBoth
+  member-lowest xs f h =
+      member-filter (inBoth query ref) h (filter (λ c. leb c (pivotHash query ref)) xs) ∙
+      rw (member-filter (λ c. leb c (pivotHash query ref)) h xs)
+      (⊎-elim (λ (m : member h query ≡ true). rw (m, f h m, and-true)) (λ (m : member h query ≡ false). rw m) (cases (member h query)))
+
+  strict-lowest : (xs : List ℕ) → StrictAsc xs → StrictAsc (lowest xs)
+  unfolding lowest
+  strict-lowest xs r = strict-filter (inBoth query ref) (filter (λ c. leb c (pivotHash query ref)) xs) (strict-filter (λ c. leb c (pivotHash query ref)) xs r)
+
+  count-lowest : (xs : List ℕ) → StrictAsc xs → member (pivotHash query ref) xs ≡ true → count (inBoth query ref) (take (numberOf xs (pivotHash query ref) + 1) xs) ≡ length (lowest xs)
+  unfolding lowest
+  count-lowest xs r m = rw (take-number xs r (pivotHash query ref) m) (count-filter (inBoth query ref) (filter (λ c. leb c (pivotHash query ref)) xs))
+
+  -- the coordinates through the pivot hold as many hashes in both as the union's k smallest
+  pub score-coords : count (inBoth query ref) (take (numberOf coords (pivotHash query ref) + 1) coords) ≡ score query ref
+  unfolding score
+  score-coords =
+      count-lowest coords strict-coords pivot-coord ∙
+      ap length (strict-same (lowest coords) (lowest (union query ref)) (strict-lowest coords strict-coords) (strict-lowest (union query ref) (strict-union query ref))
+      (λ h. member-lowest coords query-in h ∙ sym (member-lowest (union query ref) (λ g. union-left g query ref) h))) ∙
+      sym (count-lowest (union query ref) (strict-union query ref) pivot-member) ∙
+      ap (λ (n : ℕ). count (inBoth query ref) (take n (union query ref))) pivot-number
+
+-- ---- the active hashes, by the counts
+
+member-pick : (h c : ℕ) (t : Bool) (xs : List ℕ) → member h (pick t (c ∷ []) [] ++ xs) ≡ (eqb h c && t || member h xs)
+unfolding member pick
+member-pick h c true xs = ⊎-elim (λ (e : eqb h c ≡ true). rw e) (λ (e : eqb h c ≡ false). rw e) (cases (eqb h c))
+member-pick h c false xs = rw (and-false (eqb h c))
+
+pub member-active : (h : ℕ) (cs ns : List ℕ) → StrictAsc cs → length ns ≡ length cs → member h (active cs ns) ≡ (member h cs && ltb 0 (getD ns (numberOf cs h) 0))
+unfolding active member
+member-active h [] ns r l = refl
+member-active h (c ∷ cs) [] r l = absurd (omega arith)
+member-active h (c ∷ cs) (n ∷ ns) r l =
+    member-pick h c (ltb 0 n) (active cs ns) ∙ rw (member-active h cs ns (r .1) (omega arith))
+    (⊎-elim (λ (e : eqb h c ≡ true). let hc : h ≡ c = eqb-true h c e in rw (e, hc, number-first c cs r, below-all c cs (r .0)) (or-false (ltb 0 n)))
+    (λ (e : eqb h c ≡ false). rw e (⊎-elim (λ (m : member h cs ≡ true). rw (m, number-later c h cs (all-member (λ y. c < y) cs (r .0) h m))) (λ (m : member h cs ≡ false). rw m) (cases (member h cs)))) (cases (eqb h c)))
+
+module _ (query coords counts : List ℕ) (strict-query : StrictAsc query) (some : 0 < length query) (strict-coords : StrictAsc coords)
+    (query-in : (h : ℕ) → member h query ≡ true → member h coords ≡ true) (sized : length counts ≡ length coords) where
+  active-in : (h : ℕ) → member h (active coords counts) ≡ true → member h coords ≡ true
+  active-in h m = and-eq-true-iff (member h coords) (ltb 0 (getD counts (numberOf coords h) 0)) .0 (sym (member-active h coords counts strict-coords sized) ∙ m) .0
+
+  -- what is counted by coordinate numbers is the score
+  pub shared-score : sharedOf query coords counts ≡ score query (active coords counts)
+  unfolding sharedOf pivotOf
+  shared-score = score-coords query (active coords counts) coords strict-query some strict-coords query-in active-in
+
+  pub pivot-fits : pivotOf query coords counts < length coords
+  unfolding pivotOf
+  pivot-fits =
+      number-fits coords strict-coords (pivotHash query (active coords counts)) (pivot-coord query (active coords counts) coords strict-query some strict-coords query-in active-in)
+
+  pub pivot-at : getD coords (pivotOf query coords counts) 0 ≡ pivotHash query (active coords counts)
+  unfolding pivotOf
+  pivot-at =
+      at-number coords strict-coords (pivotHash query (active coords counts)) (pivot-coord query (active coords counts) coords strict-query some strict-coords query-in active-in)

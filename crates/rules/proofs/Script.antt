@@ -15,7 +15,8 @@ use Rattle.rules.specs.Score.{union, numberOf, pivotHash}
 use Rattle.rules.specs.Script.{Script, Look, stepped, active, pivotOf, sharedOf, look, countsAfter, noCounts, looks, lastOr}
 use Rattle.rules.specs.Moves.{Slide, marks, begin, moved, movedBy, slideLook, looksByMoves}
 use Rattle.rules.specs.Ranks.{either, both, PivotAt, mark, has, size, Slid}
-use Rattle.rules.proofs.Score.{Rising, All, rising-same, rising-union, member-union}
+use Rattle.base.specs.Lists.{All, StrictAsc}
+use Rattle.rules.proofs.Score.{strict-same, strict-union, member-union}
 use Rattle.rules.proofs.Moves.{moved-slid, moved-counts}
 use Rattle.rules.proofs.Slide.{pivot-is, shared-is, pivot-some, length-ms}
 
@@ -43,11 +44,11 @@ or-none : (a : Bool) → (a || false) ≡ a
 or-none true = refl
 or-none false = refl
 
-union-none : (query : List ℕ) → Rising query → union query [] ≡ query
+union-none : (query : List ℕ) → StrictAsc query → union query [] ≡ query
 unfolding member
-union-none query r = rising-same (union query []) query (rising-union query []) r (λ h. member-union h query [] ∙ or-none (member h query))
+union-none query r = strict-same (union query []) query (strict-union query []) r (λ h. member-union h query [] ∙ or-none (member h query))
 
-module _ (query coords : List ℕ) (rq : Rising query) (rc : Rising coords) (sub : (h : ℕ) → member h query ≡ true → member h coords ≡ true) (some : 0 < length query) where
+module _ (query coords : List ℕ) (rq : StrictAsc query) (rc : StrictAsc coords) (sub : (h : ℕ) → member h query ≡ true → member h coords ≡ true) (some : 0 < length query) where
   no-lens : length (noCounts coords) ≡ length coords
   unfolding noCounts
   no-lens = length-replicate {A = ℕ} (length coords) 0
@@ -94,7 +95,7 @@ module _ (query coords : List ℕ) (rq : Rising query) (rc : Rising coords) (sub
       rw (head, rest)
 
 -- pivot and shared count after each step, by the Rust's moves, are those of the union
-pub looks-by-moves : (s : Script) → Rising (s .query) → Rising (s .coords) → ((h : ℕ) → member h (s .query) ≡ true → member h (s .coords) ≡ true) → 0 < length (s .query)
+pub looks-by-moves : (s : Script) → StrictAsc (s .query) → StrictAsc (s .coords) → ((h : ℕ) → member h (s .query) ≡ true → member h (s .coords) ≡ true) → 0 < length (s .query)
     → All (λ (i : ℕ). i < length (s .coords)) (s .indexes) → looksByMoves s ≡ looks s
 unfolding looksByMoves looks begin
 looks-by-moves s rq rc sub some fit = walk (s .query) (s .coords) rq rc sub some (s .indexes) (s .kinds) fit (begin (s .query) (s .coords)) (begin-slid (s .query) (s .coords) rq rc sub some)

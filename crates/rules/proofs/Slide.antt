@@ -1,4 +1,4 @@
--- The score by ranks is the score by hashes: where the coordinates rise strictly and hold the query, the elements at the flagged numbers are the hashes
+-- Pivot and shared count by ranks are those by hashes: where the coordinates rise strictly and hold the query, the elements at the flagged numbers are the hashes
 -- themselves, so that the number p with k − 1 flagged numbers before it stands for the union's k-th smallest hash, and counting flags through p counts hashes.
 use mathlib.Core.Path.{_≡_, refl, sym, ap, _∙_, subst}
 use mathlib.Core.Logic.{_⊎_, inl, inr, ⊎-elim, _≢_}
@@ -23,7 +23,9 @@ use Rattle.rules.specs.Script.{active, pivotOf, sharedOf}
 use Rattle.rules.specs.Moves.{isActive, marks}
 use Rattle.rules.proofs.Moves.{or-bit, and-bit, active-bit, mark-past, has-past, mark-le, has-le}
 use Rattle.rules.specs.Ranks.{either, both, PivotAt, mark, has, size, Slid}
-use Rattle.rules.proofs.Score.{Rising, All, all-map, member-append, all-member, member-all, getD-member, rising-same, rising-union, member-union, number-at, at-number, number-fits, getD-rises, below-all, same-test, cases}
+use Rattle.base.specs.Lists.{StrictAsc}
+use Rattle.base.proofs.Lists.{strict-at}
+use Rattle.rules.proofs.Score.{all-member, member-all, strict-same, strict-union, member-union, at-number, number-fits, number-at, below-all, shared-score}
 
 -- ---- the elements at the flagged places
 
@@ -84,30 +86,6 @@ chosen-at (false ∷ bs) (x ∷ xs) zero l m = absurd (omega (arith, mark-first 
 chosen-at (true ∷ bs) (x ∷ xs) (suc p) l m = rw (mark-front true bs p, one-more (count (mark bs) p)) (chosen-at bs xs p (le-of-suc-le-suc l) (sym (mark-later true bs p) ∙ m))
 chosen-at (false ∷ bs) (x ∷ xs) (suc p) l m = rw (mark-front false bs p, none-more (count (mark bs) p)) (chosen-at bs xs p (le-of-suc-le-suc l) (sym (mark-later false bs p) ∙ m))
 
--- the first flagged ones are the flagged of the first
-pub chosen-take : (bs : List Bool) (xs : List ℕ) (n : ℕ) → n ≤ length xs → take (count (mark bs) n) (chosen bs xs) ≡ chosen bs (take n xs)
-unfolding chosen pick
-chosen-take [] xs n l = rw (count-empty n)
-chosen-take (b ∷ bs) xs zero l = rw (count-zero (mark (b ∷ bs)))
-chosen-take (b ∷ bs) [] (suc n) l = absurd (not-suc-le-zero l)
-chosen-take (true ∷ bs) (x ∷ xs) (suc n) l = rw (mark-front true bs n, one-more (count (mark bs) n)) (ap (λ (r : List ℕ). x ∷ r) (chosen-take bs xs n (le-of-suc-le-suc l)))
-chosen-take (false ∷ bs) (x ∷ xs) (suc n) l = rw (mark-front false bs n, none-more (count (mark bs) n)) (chosen-take bs xs n (le-of-suc-le-suc l))
-
--- what would be flagged if it passed, and is not, does not pass
-fails : {n : ℕ} (b : Bool) → (b ≡ true → n ≡ 1) → n ≡ 0 → pick {A = ℕ} b 1 0 ≡ 0
-unfolding pick
-fails true f e = absurd (omega (arith, f refl))
-fails false f e = refl
-
--- as many of the flagged pass a test as of all, where each that passes is flagged
-pub chosen-count : (t : ℕ → Bool) (bs : List Bool) (xs : List ℕ) → ((i : ℕ) → i < length xs → t (getD xs i 0) ≡ true → mark bs i ≡ 1) → howMany t (chosen bs xs) ≡ howMany t xs
-unfolding chosen howMany pick
-chosen-count t [] [] f = refl
-chosen-count t (b ∷ bs) [] f = refl
-chosen-count t [] (x ∷ xs) f = omega (arith, fails (t x) (λ e. f 0 (omega arith) e) (mark-none 0), chosen-count t [] xs (λ i l e. mark-none i ∙ sym (mark-none (suc i)) ∙ f (suc i) (omega arith) e))
-chosen-count t (true ∷ bs) (x ∷ xs) f = omega (arith, chosen-count t bs xs (λ i l e. sym (mark-later true bs i) ∙ f (suc i) (omega arith) e))
-chosen-count t (false ∷ bs) (x ∷ xs) f = omega (arith, fails (t x) (λ e. f 0 (omega arith) e) (mark-first false bs), chosen-count t bs xs (λ i l e. sym (mark-later false bs i) ∙ f (suc i) (omega arith) e))
-
 -- counting what passes is counting its flags
 pub count-flags : (t : ℕ → Bool) (xs : List ℕ) (n : ℕ) → n ≤ length xs → howMany t (take n xs) ≡ count (λ (i : ℕ). pick (t (getD xs i 0)) 1 0) n
 unfolding howMany
@@ -149,28 +127,34 @@ chosen-member (b ∷ bs) [] h m = m
 chosen-member (true ∷ bs) (x ∷ xs) h m = or-true (eqb h x) (member h (chosen bs xs)) (member h xs) (chosen-member bs xs h) m
 chosen-member (false ∷ bs) (x ∷ xs) h m = or-right (eqb h x) (member h xs) (chosen-member bs xs h m)
 
-chosen-rising : (bs : List Bool) (xs : List ℕ) → Rising xs → Rising (chosen bs xs)
+chosen-strict : (bs : List Bool) (xs : List ℕ) → StrictAsc xs → StrictAsc (chosen bs xs)
 unfolding chosen pick
-chosen-rising [] xs r = tt
-chosen-rising (b ∷ bs) [] r = tt
-chosen-rising (true ∷ bs) (x ∷ xs) r =
-    (member-all (λ y. x < y) (chosen bs xs) (λ h m. all-member (λ y. x < y) xs (r .0) h (chosen-member bs xs h m)), chosen-rising bs xs (r .1))
-chosen-rising (false ∷ bs) (x ∷ xs) r = chosen-rising bs xs (r .1)
+chosen-strict [] xs r = tt
+chosen-strict (b ∷ bs) [] r = tt
+chosen-strict (true ∷ bs) (x ∷ xs) r =
+    (member-all (λ y. x < y) (chosen bs xs) (λ h m. all-member (λ y. x < y) xs (r .0) h (chosen-member bs xs h m)), chosen-strict bs xs (r .1))
+chosen-strict (false ∷ bs) (x ∷ xs) r = chosen-strict bs xs (r .1)
 
 -- an element is chosen exactly when its flag says so
-pub member-chosen : (bs : List Bool) (xs : List ℕ) → Rising xs → (i : ℕ) → i < length xs → member (getD xs i 0) (chosen bs xs) ≡ getD bs i false
+pub member-chosen : (bs : List Bool) (xs : List ℕ) → StrictAsc xs → (i : ℕ) → i < length xs → member (getD xs i 0) (chosen bs xs) ≡ getD bs i false
 unfolding chosen member pick
 member-chosen bs [] r i l = absurd (not-suc-le-zero l)
 member-chosen [] (x ∷ xs) r i l = refl
 member-chosen (true ∷ bs) (x ∷ xs) r zero l = rw (eq-eqb x x refl)
 member-chosen (false ∷ bs) (x ∷ xs) r zero l = below-all x (chosen bs xs) (member-all (λ y. x < y) (chosen bs xs) (λ h m. all-member (λ y. x < y) xs (r .0) h (chosen-member bs xs h m)))
 member-chosen (true ∷ bs) (x ∷ xs) r (suc i) l =
-    rw (ne-eqb (getD xs i 0) x (λ e. omega (arith, getD-rises (x ∷ xs) r 0 (suc i) (omega arith) l))) (member-chosen bs xs (r .1) i (le-of-suc-le-suc l))
+    rw (ne-eqb (getD xs i 0) x (λ e. omega (arith, strict-at (x ∷ xs) r 0 (suc i) (omega arith) l))) (member-chosen bs xs (r .1) i (le-of-suc-le-suc l))
 member-chosen (false ∷ bs) (x ∷ xs) r (suc i) l = member-chosen bs xs (r .1) i (le-of-suc-le-suc l)
 
--- a rising list whose members are elements of another is what its own flags choose
-pub sub-chosen : (xs ys : List ℕ) → Rising xs → Rising ys → ((h : ℕ) → member h ys ≡ true → member h xs ≡ true) → ys ≡ chosen (map (λ (c : ℕ). member c ys) xs) xs
-sub-chosen xs ys r s sub = rising-same ys (chosen flags xs) s (chosen-rising flags xs r) (λ h. same-test (member h ys) (member h (chosen flags xs)) (there h) (back h))
+-- two tests that pass alike are one
+same-test : (a b : Bool) → (a ≡ true → b ≡ true) → (b ≡ true → a ≡ true) → a ≡ b
+same-test true b f g = sym (f refl)
+same-test false true f g = g refl
+same-test false false f g = refl
+
+-- a strictly ascending list whose members are elements of another is what its own flags choose
+pub sub-chosen : (xs ys : List ℕ) → StrictAsc xs → StrictAsc ys → ((h : ℕ) → member h ys ≡ true → member h xs ≡ true) → ys ≡ chosen (map (λ (c : ℕ). member c ys) xs) xs
+sub-chosen xs ys r s sub = strict-same ys (chosen flags xs) s (chosen-strict flags xs r) (λ h. same-test (member h ys) (member h (chosen flags xs)) (there h) (back h))
   where
     flags : List Bool
     flags = map (λ (c : ℕ). member c ys) xs
@@ -202,15 +186,11 @@ rank-some f small (suc n) k pos l =
     split : (a b : ℕ) → (a ≤ b) ⊎ (b < a)
     split a b = ⊎-elim (λ (m : b < a). inr m) (λ (m : a ≤ b). inl m) (lt-or-ge b a)
 
-passes : (b : Bool) → b ≡ true → pick {A = ℕ} b 1 0 ≡ 1
-unfolding pick
-passes b e = rw e
-
 or-elim : (a b c : Bool) → (a ≡ true → c ≡ true) → (b ≡ true → c ≡ true) → (a || b) ≡ true → c ≡ true
 or-elim true b c f g m = f refl
 or-elim false b c f g m = g m
 
-module _ (query coords counts : List ℕ) (rq : Rising query) (rc : Rising coords) (sub : (h : ℕ) → member h query ≡ true → member h coords ≡ true)
+module _ (query coords counts : List ℕ) (rq : StrictAsc query) (rc : StrictAsc coords) (sub : (h : ℕ) → member h query ≡ true → member h coords ≡ true)
     (lens : length counts ≡ length coords) where
   abbrev ms : List Bool
   ms = marks query coords
@@ -257,7 +237,7 @@ module _ (query coords counts : List ℕ) (rq : Rising query) (rc : Rising coord
   whole-chosen : whole ≡ chosen us coords
   unfolding us whole
   whole-chosen =
-      sub-chosen coords whole rc (rising-union query alive)
+      sub-chosen coords whole rc (strict-union query alive)
       (λ h m. or-elim (member h query) (member h alive) (member h coords) (sub h) (alive-sub h) (sym (member-union h query alive) ∙ m))
 
   query-chosen : query ≡ chosen ms coords
@@ -300,24 +280,9 @@ module _ (query coords counts : List ℕ) (rq : Rising query) (rc : Rising coord
     unfolding sharedOf
     shared-is = ap (λ (r : ℕ). howMany (inBoth query alive) (take (r + 1) coords)) pivot-is ∙ through
 
-    through-k : length query ≡ count (mark us) (p + 1)
-    through-k = omega (arith, below-us (p + 1) (omega (arith, inside)), count-next (either (mark ms) (has counts)) p, a .on, a .rank, size-query)
-
-    -- what is in both is in the union, so that the first k of the union hold as many as the coordinates through the pivot
+    -- and the score
     pub score-is : score query alive ≡ s
-    unfolding score whole
-    score-is =
-        ap (λ (w : List ℕ). howMany (inBoth query alive) (take (length query) w)) whole-chosen ∙
-        ap (λ (n : ℕ). howMany (inBoth query alive) (take n (chosen us coords))) through-k ∙
-        ap (howMany (inBoth query alive)) (chosen-take us coords (p + 1) (omega (arith, inside))) ∙
-        chosen-count (inBoth query alive) us (take (p + 1) coords) (λ i l e. flagged i l e) ∙ through
-      where
-        flagged : (i : ℕ) → i < length (take (p + 1) coords) → inBoth query alive (getD (take (p + 1) coords) i 0) ≡ true → mark us i ≡ 1
-        flagged i l e =
-            let m : i < p + 1 = omega (arith, length-take (p + 1) coords) in
-            let n : i < length coords = omega (arith, inside) in
-            let f : inBoth query alive (getD coords i 0) ≡ true = sym (ap (inBoth query alive) (getD-take (p + 1) coords i 0 m)) ∙ e in
-            omega (arith, mark-us i n, both-at i n, passes (inBoth query alive (getD coords i 0)) f, mark-le ms i, has-le counts i)
+    score-is = sym (shared-score query coords counts rq (omega (arith, a .rank, size-query)) rc sub lens) ∙ shared-is
 
   -- there is a pivot, whatever the counts, where the query is not empty
   pub pivot-some : 0 < length query → (p : ℕ) × (s : ℕ) × PivotAt (either (mark ms) (has counts)) (both (mark ms) (has counts)) (size ms) p s
@@ -327,7 +292,3 @@ module _ (query coords counts : List ℕ) (rq : Rising query) (rc : Rising coord
       rank-some (either (mark ms) (has counts)) (λ j. omega (arith, mark-le ms j, has-le counts j)) (length ms) (size ms) (omega (arith, size-query))
       (count-le (mark ms) (either (mark ms) (has counts)) (length ms) (λ j. omega arith)) in
       (r .0, count (both (mark ms) (has counts)) (r .0 + 1), record { on = r .2; rank = r .3; shared = refl })
-
-  -- the score by ranks in coordinates is the score by hashes
-  pub shared-score : 0 < length query → sharedOf query coords counts ≡ score query (active coords counts)
-  shared-score l = let r = pivot-some l in shared-is (r .0) (r .1) (r .2) ∙ sym (score-is (r .0) (r .1) (r .2))

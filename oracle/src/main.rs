@@ -1,0 +1,50 @@
+//! `oracle COMMAND`: see README.md.
+
+use std::process::ExitCode;
+
+use oracle::generate::Size;
+
+const USAGE: &str = "usage: oracle examples
+       oracle diff SEED COUNT [small|medium|limit]
+       oracle exhaust
+       oracle antt SEED COUNT";
+
+fn main() -> ExitCode {
+    let arguments: Vec<String> = std::env::args().skip(1).collect();
+    let arguments: Vec<&str> = arguments.iter().map(String::as_str).collect();
+    match run(&arguments) {
+        Some(true) => ExitCode::SUCCESS,
+        Some(false) => ExitCode::FAILURE,
+        None => {
+            eprintln!("{USAGE}");
+            ExitCode::from(2)
+        }
+    }
+}
+
+/// Whether all was well, or none where the arguments are not understood.
+fn run(arguments: &[&str]) -> Option<bool> {
+    match arguments {
+        ["examples"] => Some(oracle::examples::run()),
+        ["diff", seed, count] => diff(seed, count, None),
+        ["diff", seed, count, size] => diff(seed, count, Some(size)),
+        ["exhaust"] => Some(oracle::exhaust::run()),
+        ["antt", seed, count] => Some(oracle::antt::run(seed.parse().ok()?, count.parse().ok()?)),
+        _ => None,
+    }
+}
+
+fn diff(seed: &str, count: &str, size: Option<&str>) -> Option<bool> {
+    let size = match size {
+        None => None,
+        Some("small") => Some(Size::Small),
+        Some("medium") => Some(Size::Medium),
+        Some("limit") => Some(Size::Limit),
+        Some(_) => return None,
+    };
+    Some(oracle::diff::run(
+        seed.parse().ok()?,
+        count.parse().ok()?,
+        size,
+    ))
+}
