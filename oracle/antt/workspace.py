@@ -5,7 +5,7 @@ import subprocess
 
 TOP = os.path.dirname(os.path.dirname(os.path.dirname(os.path.abspath(__file__))))
 TARGET = os.path.join(TOP, "target", "antt")
-TABLES = ("Examples", "Edges", "Vectors")
+TABLES = ("Examples", "Edges")
 
 
 def copy(name, tables):

@@ -10,14 +10,15 @@ use Rattle.base.specs.declared.Verdict.{Verdict}
 use Rattle.base.specs.declared.Verdict.the-variants.{Fine}
 use Rattle.rules.specs.Lists.{upFrom}
 use Rattle.rules.specs.Text.{text}
-use Rattle.rules.specs.Script.{Script}
+use Rattle.rules.specs.Script.{Script, looks}
+use Rattle.rules.specs.Moves.{looksByMoves}
 use Rattle.rules.specs.Sweep.{Sweep}
 use Rattle.rules.specs.Place.{minimizerAnswer, minimizerByScoring, intervalAnswer, intervalByScoring}
 use Rattle.rules.specs.Finder.{Finder, seedHits, minimizerFound, intervalFound}
 use Rattle.rules.specs.Checks.{refuse, minimizerSizes, intervalSizes, sweepOrders, sweepTable, sweepNeeds, keysNeed, scriptSizes, scriptOrders, scriptMembers, scriptNeeds, minimizerFinderSizes, minimizerFinderLengths, intervalFinderSizes, intervalFinderLengths, finderNeeds, endKeysNeed}
 use Rattle.rules.specs.Refusals.{SweepRoom, ScriptRoom, FinderRoom, minimizerCall, intervalCall, scriptCall, minimizerFinderCall, intervalFinderCall, workLeft, outputLeft}
 use Rattle.rules.specs.Lines.{said}
-use Rattle.rules.specs.Told.{Told, toldDone, toldSweep, toldScript, toldFinder, toldCandidates}
+use Rattle.rules.specs.Told.{Told, toldDone, toldSweep, toldScript, toldFinder, toldLooks, toldCandidates}
 use Rattle.rules.specs.Calls.{minimizerPremises, intervalPremises}
 use Rattle.rules.specs.Computes.{computes}
 use Rattle.rules.specs.Examples.{Row, says, prints, list, placed, nothing, refused, scriptA, emptyScript, f0, f50, f100, sweepOf, caseB, caseC, caseD, caseE, caseF, caseG, jobB2}
@@ -63,6 +64,39 @@ judgedB identities uppers minimum = sweepWith 3 2 10 queryB hashesB startsB [] 0
 -- from the first stop both distances are 4, so a tie moves both sides
 abbrev pub caseTie : Sweep
 caseTie = sweepOf (30 ∷ 40 ∷ 20 ∷ 50 ∷ []) (0 ∷ 4 ∷ 10 ∷ 20 ∷ []) [] 0 11
+
+-- inserts and deletes at the pivot, above it and below it; a second insert, and a delete at count 0
+abbrev pub scriptEdge : Script
+scriptEdge = record {
+  query = 20 ∷ 40 ∷ [];
+  coords = 10 ∷ 20 ∷ 40 ∷ [];
+  indexes = 2 ∷ 1 ∷ 0 ∷ 2 ∷ 0 ∷ 1 ∷ 1 ∷ 1 ∷ 1 ∷ 1 ∷ [];
+  kinds = 1 ∷ 1 ∷ 1 ∷ 0 ∷ 0 ∷ 0 ∷ 0 ∷ 1 ∷ 1 ∷ 0 ∷ [];
+}
+
+-- 2/1, 2/2, 1/1, 1/1, 2/1, 2/0, 2/0, 2/1, 2/1, 2/1
+abbrev pub looksEdge : List ℕ
+looksEdge = 2 ∷ 1 ∷ 2 ∷ 2 ∷ 1 ∷ 1 ∷ 1 ∷ 1 ∷ 2 ∷ 1 ∷ 2 ∷ 0 ∷ 2 ∷ 0 ∷ 2 ∷ 1 ∷ 2 ∷ 1 ∷ 2 ∷ 1 ∷ []
+
+-- the only start is range end, and the last item lies past it by W or more
+abbrev pub caseLast : Sweep
+caseLast = sweepWith 3 2 16 queryB (20 ∷ 50 ∷ []) (5 ∷ 20 ∷ []) [] 0 5 tableB tableB f0
+
+-- the last item lies exactly W past the only start
+abbrev pub caseBeyond : Sweep
+caseBeyond = sweepOf (20 ∷ 50 ∷ []) (0 ∷ 7 ∷ []) [] 0 0
+
+-- one interval 20[from,to)
+abbrev pub caseOne : (from to rangeStart rangeEnd : ℕ) → Sweep
+caseOne from to rangeStart rangeEnd = sweepOf (20 ∷ []) (from ∷ []) (to ∷ []) rangeStart rangeEnd
+
+-- 20[0,5), 20[5,9), range 3..7: a delete, then an insert, of one hash at one position
+abbrev pub caseMeet : Sweep
+caseMeet = sweepOf (20 ∷ 20 ∷ []) (0 ∷ 5 ∷ []) (5 ∷ 9 ∷ []) 3 7
+
+-- 40[0,9), 20[5,9), 30[5,9), range 3..7: between the two inserts at 5 the score is 2, and no position has it
+abbrev pub caseBetween : Sweep
+caseBetween = sweepOf (40 ∷ 20 ∷ 30 ∷ []) (0 ∷ 5 ∷ 5 ∷ []) (9 ∷ 9 ∷ 9 ∷ []) 3 7
 
 -- 150, above every upper bound
 abbrev pub f150 : Float
@@ -242,6 +276,7 @@ calls =
     says (toldSweep (minimizerCall (sweepWith 3 2 10 queryB (20 ∷ 30 ∷ []) (4 ∷ 3 ∷ []) [] 0 11 [] [] f0) noRoom)) (refused 5 1) ∷
     says (toldSweep (minimizerCall (sweepWith 3 2 10 queryB (20 ∷ 30 ∷ []) (4 ∷ 4 ∷ []) [] 0 11 (f0 ∷ f50 ∷ []) (f0 ∷ f50 ∷ []) f0) noRoom)) (refused 7 0) ∷
     says (toldSweep (minimizerCall (caseB 11) noRoom)) (refused 8 0) ∷
+    says (toldSweep (minimizerCall (caseB 11) (record { hashes = 6; counts = 7; coords = 7; words = 1; summary = 1 }))) (refused 8 0) ∷
     says (toldSweep (minimizerCall (caseB 11) exactly)) (placed 8 17 2 5 4 5 f100) ∷
     -- 7 and 8 also where the answer would be none; and none with nothing lent
     says (toldSweep (minimizerCall (sweepWith 3 2 10 [] [] [] [] 0 11 [] [] f0) noRoom)) (refused 7 0) ∷
@@ -291,12 +326,20 @@ pub calls-hold : map (λ (r : Row). r .given) calls ≡ map (λ (r : Row). r .wa
 unfolding calls computes
 calls-hold = refl
 
--- Answers of the sweeps and finders at their edges.
+-- Answers of scripts, sweeps and finders at their edges.
 pub answers : List Row
 answers =
+    -- a script, by looking after each step and by the Rust's moves
+    says (list (toldLooks (looks scriptEdge))) (list looksEdge) ∷
+    says (list (toldLooks (looksByMoves scriptEdge))) (list looksEdge) ∷
     -- a tie (no example of the paper has one)
     says (toldSweep (minimizerAnswer caseTie)) (placed 4 13 2 3 4 4 f100) ∷
     says (toldSweep (minimizerByScoring caseTie)) (placed 4 13 2 3 4 4 f100) ∷
+    -- a start at range end, and an item exactly W past a start
+    says (toldSweep (minimizerAnswer caseLast)) (placed 5 20 1 1 3 2 f50) ∷
+    says (toldSweep (minimizerByScoring caseLast)) (placed 5 20 1 1 3 2 f50) ∷
+    says (toldSweep (minimizerAnswer caseBeyond)) (placed 0 9 1 1 3 2 f50) ∷
+    says (toldSweep (minimizerByScoring caseBeyond)) (placed 0 9 1 1 3 2 f50) ∷
     -- none before coordinates are built: W below 1, no query hash, no local item
     says (toldSweep (minimizerAnswer (fragmentB 3 2 3))) (nothing 0 0 0) ∷
     says (toldSweep (minimizerAnswer (queriedB []))) (nothing 0 0 0) ∷
@@ -310,29 +353,38 @@ answers =
     says (toldSweep (minimizerAnswer (judgedB (f0 ∷ f0 ∷ f50 ∷ []) tableB f100))) (toldDone (8 ∷ 17 ∷ 2 ∷ 2 ∷ 5 ∷ 4 ∷ 5 ∷ []) (f50 ∷ f100 ∷ [])) ∷
     says (toldSweep (minimizerAnswer (judgedB tableB (f0 ∷ f0 ∷ nan ∷ []) f150))) (toldDone (8 ∷ 17 ∷ 2 ∷ 2 ∷ 5 ∷ 4 ∷ 5 ∷ []) (f100 ∷ nan ∷ [])) ∷
     says (toldSweep (minimizerAnswer (judgedB tableB tableB nan))) (placed 8 17 2 5 4 5 f100) ∷
-    -- intervals. None before coordinates are built: length < k-mer, no query hash, range reversed, none taken (it ends at range start)
-    says (toldSweep (intervalAnswer (sweepWith 3 2 2 queryB (20 ∷ []) (0 ∷ []) (9 ∷ []) 1 5 tableB tableB f0))) (nothing 0 0 0) ∷
-    says (toldSweep (intervalAnswer (sweepWith 3 2 10 [] (20 ∷ []) (0 ∷ []) (9 ∷ []) 1 5 tableB tableB f0))) (nothing 0 0 0) ∷
-    says (toldSweep (intervalAnswer (sweepOf (20 ∷ []) (0 ∷ []) (9 ∷ []) 5 1))) (nothing 0 0 0) ∷
-    says (toldSweep (intervalAnswer (sweepOf (20 ∷ []) (0 ∷ []) (5 ∷ []) 5 6))) (nothing 0 0 0) ∷
-    -- K is 8: a start at range start − K is taken, one before it is not
-    says (toldSweep (intervalAnswer (sweepOf (20 ∷ []) (0 ∷ []) (100 ∷ []) 8 10))) (placed 9 18 1 3 2 1 f50) ∷
-    says (toldSweep (intervalAnswer (sweepOf (20 ∷ []) (0 ∷ []) (100 ∷ []) 9 10))) (nothing 0 0 0) ∷
-    -- it starts, and it ends, at range end
-    says (toldSweep (intervalAnswer (sweepOf (20 ∷ []) (6 ∷ []) (9 ∷ []) 5 6))) (placed 6 15 1 2 2 1 f50) ∷
-    says (toldSweep (intervalAnswer (sweepOf (20 ∷ []) (0 ∷ []) (6 ∷ []) 5 6))) (placed 5 14 1 2 2 1 f50) ∷
-    -- a delete, then an insert, of one hash at one position
-    says (toldSweep (intervalAnswer (sweepOf (20 ∷ 20 ∷ []) (0 ∷ 5 ∷ []) (5 ∷ 9 ∷ []) 3 7))) (placed 5 14 1 5 2 2 f50) ∷
-    says (toldSweep (intervalByScoring (sweepOf (20 ∷ 20 ∷ []) (0 ∷ 5 ∷ []) (5 ∷ 9 ∷ []) 3 7))) (placed 5 14 1 5 2 2 f50) ∷
+    -- intervals. None before coordinates are built: length < k-mer, no query hash, range reversed
+    says (toldSweep (intervalAnswer (sweepWith 3 2 2 queryB (20 ∷ []) (1 ∷ []) (9 ∷ []) 1 5 tableB tableB f0))) (nothing 0 0 0) ∷
+    says (toldSweep (intervalAnswer (sweepWith 3 2 10 [] (20 ∷ []) (1 ∷ []) (9 ∷ []) 1 5 tableB tableB f0))) (nothing 0 0 0) ∷
+    says (toldSweep (intervalAnswer (caseOne 0 9 5 1))) (nothing 0 0 0) ∷
+    -- none taken: it ends at range start; it starts after range end; K is 8, and it starts before range start − K
+    says (toldSweep (intervalAnswer (caseOne 0 5 5 6))) (nothing 0 0 0) ∷
+    says (toldSweep (intervalAnswer (caseOne 7 9 5 6))) (nothing 0 0 0) ∷
+    says (toldSweep (intervalAnswer (caseOne 0 100 9 10))) (nothing 0 0 0) ∷
+    -- it starts at range start − K; at range start; at range end
+    says (toldSweep (intervalAnswer (caseOne 0 100 8 10))) (placed 9 18 1 3 2 1 f50) ∷
+    says (toldSweep (intervalAnswer (caseOne 5 9 5 6))) (placed 5 14 1 2 2 1 f50) ∷
+    says (toldSweep (intervalAnswer (caseOne 6 9 5 6))) (placed 6 15 1 2 2 1 f50) ∷
+    -- it ends within the range; at range end. The mean of 4 and 5 is rounded down
+    says (toldSweep (intervalAnswer (caseOne 0 6 4 9))) (placed 4 13 1 6 2 1 f50) ∷
+    says (toldSweep (intervalByScoring (caseOne 0 6 4 9))) (placed 4 13 1 6 2 1 f50) ∷
+    says (toldSweep (intervalAnswer (caseOne 0 6 5 6))) (placed 5 14 1 2 2 1 f50) ∷
+    -- events at one position
+    says (toldSweep (intervalAnswer caseMeet)) (placed 5 14 1 5 2 2 f50) ∷
+    says (toldSweep (intervalByScoring caseMeet)) (placed 5 14 1 5 2 2 f50) ∷
+    says (toldSweep (intervalAnswer caseBetween)) (placed 5 14 1 5 3 3 f50) ∷
+    says (toldSweep (intervalByScoring caseBetween)) (placed 5 14 1 5 3 3 f50) ∷
     -- finders: a group as long as the threshold is dropped; threshold 0 keeps none; ranges by contig, then start
     says (list (toldCandidates (minimizerFound (finderWith (0 ∷ 0 ∷ 0 ∷ []) (5 ∷ 8 ∷ 9 ∷ []) [] (2 ∷ 1 ∷ []) 2 1)))) (list (0 ∷ 0 ∷ 9 ∷ [])) ∷
     says (list (seedHits (finderWith (0 ∷ 0 ∷ 0 ∷ []) (5 ∷ 8 ∷ 9 ∷ []) [] (2 ∷ 1 ∷ []) 2 1) ∷ [])) (list (1 ∷ [])) ∷
     says (list (toldCandidates (minimizerFound (finderWith (0 ∷ []) (5 ∷ []) [] (1 ∷ []) 0 1)))) (list []) ∷
     says (list (toldCandidates (minimizerFound (finderWith (2 ∷ 1 ∷ []) (5 ∷ 90 ∷ []) [] (2 ∷ []) 9 1)))) (list (1 ∷ 81 ∷ 90 ∷ 2 ∷ 0 ∷ 5 ∷ [])) ∷
+    -- a run lies in one contig
+    says (list (toldCandidates (minimizerFound (finderWith (0 ∷ 1 ∷ []) (5 ∷ 8 ∷ []) [] (2 ∷ []) 9 2)))) (list []) ∷
     -- touching intervals join; one that is empty is a seed hit and covers nothing
     says (list (toldCandidates (intervalFound (finderWith (0 ∷ 0 ∷ []) (2 ∷ 4 ∷ []) (4 ∷ 6 ∷ []) (2 ∷ []) 9 1)))) (list (0 ∷ 2 ∷ 5 ∷ [])) ∷
-    says (list (toldCandidates (intervalFound (finderWith (0 ∷ []) (5 ∷ []) (5 ∷ []) (1 ∷ []) 9 1)))) (list []) ∷
-    says (list (seedHits (finderWith (0 ∷ []) (5 ∷ []) (5 ∷ []) (1 ∷ []) 9 1) ∷ [])) (list (1 ∷ [])) ∷
+    says (list (toldCandidates (intervalFound (finderWith (0 ∷ 0 ∷ []) (5 ∷ 7 ∷ []) (5 ∷ 9 ∷ []) (2 ∷ []) 9 1)))) (list (0 ∷ 7 ∷ 8 ∷ [])) ∷
+    says (list (seedHits (finderWith (0 ∷ 0 ∷ []) (5 ∷ 7 ∷ []) (5 ∷ 9 ∷ []) (2 ∷ []) 9 1) ∷ [])) (list (2 ∷ [])) ∷
     []
 
 -- every answer is so
@@ -382,8 +434,16 @@ jobs =
     prints (jobWith 9 19) "refused 15 8\n" ∷
     prints (jobWith 7 1) "refused 15 50\n" ∷
     prints (jobTo 164 (0xff ∷ 0x01 ∷ 0x00 ∷ 0x00 ∷ [])) "refused 15 164\n" ∷
-    -- 16: 513 query hashes; 17: a byte after FF
+    -- 16: 513 query hashes; 2,049 items, and 2,048 in one field and one in the next; 514 estimates
     prints (jobTo 31 (0x05 ∷ 0x08 ∷ 0x10 ∷ replicate 4104 0)) "refused 16 31\n" ∷
+    prints (jobTo 50 (0x06 ∷ 0x0c ∷ 0x60 ∷ replicate 24588 0)) "refused 16 50\n" ∷
+    prints (jobTo 50 (0x06 ∷ 0x00 ∷ 0x60 ∷ (replicate 24576 0 ++ (0x06 ∷ 0x0c ∷ 0x00 ∷ replicate 12 0)))) "refused 16 24629\n" ∷
+    prints (jobTo 113 (0x07 ∷ 0x20 ∷ 0x20 ∷ replicate 8224 0)) "refused 16 113\n" ∷
+    -- 512 query hashes, 2,048 items, 513 estimates: no file refusal (their bytes are all 0)
+    prints (jobTo 31 (0x05 ∷ 0x00 ∷ 0x10 ∷ (replicate 4096 0 ++ drop 50 jobB2))) "refused 4 1\n" ∷
+    prints (jobTo 50 (0x06 ∷ 0x00 ∷ 0x60 ∷ (replicate 24576 0 ++ drop 113 jobB2))) "none\ncounts 0 3 2048\n" ∷
+    prints (jobTo 113 (0x07 ∷ 0x10 ∷ 0x20 ∷ (replicate 8208 0 ++ (0xff ∷ 0x00 ∷ 0x00 ∷ [])))) "mapped 8 17 2 2\nidentity 0000000000000000 0000000000000000\ncounts 5 4 5\n" ∷
+    -- 17: a byte after FF
     prints (jobTo 167 (0x00 ∷ [])) "refused 17 167\n" ∷
     -- within one field: 12 before 13, 13 before 14, 14 before 15, 15 before 16
     prints (jobTo 164 (0x08 ∷ 0x01 ∷ 0x00 ∷ [])) "refused 12 164\n" ∷

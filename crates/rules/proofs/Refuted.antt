@@ -1,0 +1,130 @@
+-- Wrong programs that no promise allows. Each is refuted at a row of the table: there the promise's answer, or a lent buffer, is a value
+-- that computes, and the wrong program's is another.
+use Prim.Native.Nat.{ℕ}
+use mathlib.Core.Path.{_≡_, refl, sym, ap, _∙_}
+use mathlib.Core.Bool.{false}
+use mathlib.Core.List.{List, [], _∷_}
+use native.Mathlib.Omega.{arith}
+use lib.ListN.{length, take, getD, replicate}
+use Rattle.base.specs.declared.Refusal.{Refusal}
+use Rattle.base.specs.declared.Place.{Place}
+use Rattle.base.specs.declared.Stats.{Stats}
+use Rattle.base.specs.declared.SweepAnswer.{SweepAnswer}
+use Rattle.base.specs.declared.ScriptAnswer.{ScriptAnswer}
+use Rattle.base.specs.declared.FinderAnswer.{FinderAnswer}
+use Rattle.rules.specs.Text.{text}
+use Rattle.rules.specs.Told.{Told}
+use Rattle.rules.specs.Calls.{SweepLent, MinimizerPromise, IntervalPromise, ScriptLent, ScriptPromise, FinderLent, MinimizerFinderPromise, IntervalFinderPromise, RunPromise}
+use Rattle.rules.specs.Computes.{computes}
+use Rattle.rules.specs.Examples.{scriptA, caseB, caseD, finderOf, jobB2}
+
+-- how many values an answer tells, and the value at i
+size : Told → ℕ
+size t = length (t .values)
+
+value : ℕ → Told → ℕ
+value i t = getD (t .values) i 0
+
+-- work buffers that hold ones, of exactly the need of B1 and B2; of D; of script A; and of n hits
+abbrev pub onesB : SweepLent
+onesB = record { hashes = replicate 7 1; counts = replicate 7 1; coords = replicate 7 1; words = 1 ∷ []; summary = 1 ∷ [] }
+
+abbrev pub onesD : SweepLent
+onesD = record { hashes = replicate 5 1; counts = replicate 5 1; coords = replicate 5 1; words = 1 ∷ []; summary = 1 ∷ [] }
+
+abbrev pub onesA : ScriptLent
+onesA = record { counts = replicate 5 1; words = 1 ∷ []; summary = 1 ∷ []; pivots = replicate 10 9; shareds = replicate 10 9 }
+
+abbrev pub onesHits : FinderLent
+onesHits = record { keys = replicate 3 1; contigs = replicate 3 9; starts = replicate 3 9; ends = replicate 3 9 }
+
+-- The minimizer sweep: one that refuses all,
+pub minimizer-refuses-all : (x : Refusal) (after : SweepLent) → MinimizerPromise (caseB 11) (SweepAnswer.Refused x) onesB after → ⊥
+unfolding computes size
+minimizer-refuses-all x after p = let e : _≡_ {A = ℕ} 0 7 = ap size (p .answer) in omega (arith, e)
+
+-- one that says none always,
+pub minimizer-none-always : (s : Stats) (after : SweepLent) → MinimizerPromise (caseB 11) (SweepAnswer.Nothing s) onesB after → ⊥
+unfolding computes size
+minimizer-none-always s after p = let e : _≡_ {A = ℕ} 3 7 = ap size (p .answer) in omega (arith, e)
+
+-- one that gives one fixed answer,
+pub minimizer-one-place : (r : SweepAnswer) (a b : SweepLent) → MinimizerPromise (caseB 10) r onesB a → MinimizerPromise (caseB 11) r onesB b → ⊥
+unfolding computes value
+minimizer-one-place r a b p q = let e : _≡_ {A = ℕ} 0 8 = ap (value 0) (sym (p .answer) ∙ q .answer) in omega (arith, e)
+
+-- one that does nothing to its work,
+pub minimizer-does-nothing : (r : SweepAnswer) → MinimizerPromise (caseB 11) r onesB onesB → ⊥
+unfolding computes
+minimizer-does-nothing r p = let e : _≡_ {A = ℕ} 1 0 = ap (λ xs. getD xs 0 0) (p .left .hashes) in omega (arith, e)
+
+-- made-up windows, coordinates or items
+pub minimizer-made-up : (x : Place) (s : Stats) (after : SweepLent) → MinimizerPromise (caseB 11) (SweepAnswer.Placed x s) onesB after → (s .windows ≡ 5) × (s .coords ≡ 4) × (s .items ≡ 5)
+unfolding computes value
+minimizer-made-up x s after p = (ap (value 4) (p .answer), ap (value 5) (p .answer), ap (value 6) (p .answer))
+
+-- The interval sweep: one that refuses all,
+pub interval-refuses-all : (x : Refusal) (after : SweepLent) (keys : List ℕ) → IntervalPromise caseD (SweepAnswer.Refused x) onesD after (replicate 6 1) keys → ⊥
+unfolding computes size
+interval-refuses-all x after keys p = let e : _≡_ {A = ℕ} 0 7 = ap size (p .answer) in omega (arith, e)
+
+-- one that says none always,
+pub interval-none-always : (s : Stats) (after : SweepLent) (keys : List ℕ) → IntervalPromise caseD (SweepAnswer.Nothing s) onesD after (replicate 6 1) keys → ⊥
+unfolding computes size
+interval-none-always s after keys p = let e : _≡_ {A = ℕ} 3 7 = ap size (p .answer) in omega (arith, e)
+
+-- one that does nothing to its event keys
+pub interval-does-nothing : (r : SweepAnswer) (after : SweepLent) → IntervalPromise caseD r onesD after (replicate 6 1) (replicate 6 1) → ⊥
+unfolding computes
+interval-does-nothing r after p = let e : _≡_ {A = ℕ} 1 0 = ap (λ xs. getD xs 0 0) (p .keys-left) in omega (arith, e)
+
+-- made-up windows, coordinates or items
+pub interval-made-up : (x : Place) (s : Stats) (after : SweepLent) (keys : List ℕ) → IntervalPromise caseD (SweepAnswer.Placed x s) onesD after (replicate 6 1) keys → (s .windows ≡ 9) × (s .coords ≡ 3) × (s .items ≡ 3)
+unfolding computes value
+interval-made-up x s after keys p = (ap (value 4) (p .answer), ap (value 5) (p .answer), ap (value 6) (p .answer))
+
+-- The script: one that refuses all,
+pub script-refuses-all : (x : Refusal) (after : ScriptLent) → ScriptPromise scriptA (ScriptAnswer.Refused x) onesA after → ⊥
+unfolding computes size
+script-refuses-all x after p = let e : _≡_ {A = ℕ} 0 2 = ap size (p .answer) in omega (arith, e)
+
+-- one that does nothing to its outputs,
+pub script-does-nothing : (r : ScriptAnswer) → ScriptPromise scriptA r onesA onesA → ⊥
+unfolding computes
+script-does-nothing r p = let e : _≡_ {A = ℕ} 9 3 = ap (λ xs. getD xs 0 0) (p .left .pivots) in omega (arith, e)
+
+-- one that moves only at its first step and repeats that answer
+pub script-repeats-first : (r : ScriptAnswer) (after : ScriptLent) → after .pivots ≡ replicate 10 3 → ScriptPromise scriptA r onesA after → ⊥
+unfolding computes
+script-repeats-first r after same p =
+    let e : _≡_ {A = ℕ} 3 1 = ap (λ xs. getD xs 1 0) (sym same ∙ p .left .pivots) in omega (arith, e)
+
+-- The finders: one that refuses all,
+pub finder-refuses-all : (x : Refusal) (after : FinderLent) → MinimizerFinderPromise (finderOf (5 ∷ 8 ∷ 15 ∷ []) []) (FinderAnswer.Refused x) onesHits after → ⊥
+unfolding computes size
+finder-refuses-all x after p = let e : _≡_ {A = ℕ} 0 2 = ap size (p .answer) in omega (arith, e)
+
+-- one that lists nothing,
+pub finder-lists-nothing : (hits : ℕ) (after : FinderLent) → MinimizerFinderPromise (finderOf (5 ∷ 8 ∷ 15 ∷ []) []) (FinderAnswer.Listed 0 hits) onesHits after → ⊥
+unfolding computes value
+finder-lists-nothing hits after p = let e : _≡_ {A = ℕ} 0 2 = ap (value 0) (p .answer) in omega (arith, e)
+
+pub interval-finder-lists-nothing : (hits : ℕ) (after : FinderLent) (endKeys : List ℕ) → IntervalFinderPromise (finderOf (2 ∷ 4 ∷ 6 ∷ []) (6 ∷ 8 ∷ 9 ∷ [])) (FinderAnswer.Listed 0 hits) onesHits after (replicate 3 1) endKeys → ⊥
+unfolding computes value
+interval-finder-lists-nothing hits after endKeys p = let e : _≡_ {A = ℕ} 0 1 = ap (value 0) (p .answer) in omega (arith, e)
+
+-- one that does nothing to its candidate lists
+pub finder-does-nothing : (r : FinderAnswer) → MinimizerFinderPromise (finderOf (5 ∷ 8 ∷ 15 ∷ []) []) r onesHits onesHits → ⊥
+unfolding computes
+finder-does-nothing r p = let e : _≡_ {A = ℕ} 9 0 = ap (λ xs. getD xs 0 0) (p .left .contigs) in omega (arith, e)
+
+-- The program: one that refuses, or says none of, every job
+pub run-refuses-all : (r : ℕ) (out out′ : List ℕ) → take 7 out′ ≡ text "refused" → RunPromise false jobB2 r out out′ → ⊥
+unfolding computes
+run-refuses-all r out out′ begins p =
+    let e : _≡_ {A = ℕ} 114 109 = ap (λ xs. getD xs 0 0) (sym begins ∙ ap (take 7) (p .written)) in omega (arith, e)
+
+pub run-none-always : (r : ℕ) (out out′ : List ℕ) → take 4 out′ ≡ text "none" → RunPromise false jobB2 r out out′ → ⊥
+unfolding computes
+run-none-always r out out′ begins p =
+    let e : _≡_ {A = ℕ} 110 109 = ap (λ xs. getD xs 0 0) (sym begins ∙ ap (take 4) (p .written)) in omega (arith, e)
