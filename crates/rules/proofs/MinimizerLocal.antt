@@ -17,7 +17,7 @@ use Rattle.base.proofs.Lists.{strict-at, strict-asc, strict-steps}
 use Rattle.rules.specs.Lists.{filter}
 use Rattle.rules.specs.Sweep.{Sweep}
 use Rattle.rules.specs.Minimizer.{Item, itemsOf, isLocal, localItems, position, part, below}
-use Rattle.rules.proofs.MinimizerPositions.{positions, below-is, below-least, below-none, below-step, under, under-le}
+use Rattle.rules.proofs.MinimizerPositions.{positions, below-is, below-least, below-none, below-step, lower, lower-le}
 
 between : ℕ → ℕ → Item → Bool
 between a b i = leb a (i .at) && ltb (i .at) b
@@ -73,14 +73,14 @@ map-part f items b e = rw (map-take, map-drop)
 
 -- where the local items begin and end among those handed in
 abbrev pub localFrom : Sweep → ℕ
-localFrom s = under (s .range .start) (s .starts)
+localFrom s = lower (s .range .start) (s .starts)
 
 abbrev pub localTo : Sweep → ℕ
-localTo s = under (s .range .end + s .settings .length) (s .starts)
+localTo s = lower (s .range .end + s .settings .length) (s .starts)
 
 module _ (s : Sweep) (same : length (s .hashes) ≡ length (s .starts)) (asc : Asc (s .starts)) where
-  counted : (q : ℕ) → below q (itemsOf (s .hashes) (s .starts)) ≡ under q (s .starts)
-  counted q = below-is q (itemsOf (s .hashes) (s .starts)) ∙ ap (under q) (items-positions (s .hashes) (s .starts) same)
+  counted : (q : ℕ) → below q (itemsOf (s .hashes) (s .starts)) ≡ lower q (s .starts)
+  counted q = below-is q (itemsOf (s .hashes) (s .starts)) ∙ ap (lower q) (items-positions (s .hashes) (s .starts) same)
 
   pub local-part : localItems s ≡ part (itemsOf (s .hashes) (s .starts)) (localFrom s) (localTo s)
   unfolding localItems isLocal between
@@ -99,7 +99,7 @@ module _ (s : Sweep) (same : length (s .hashes) ≡ length (s .starts)) (asc : A
 
   pub local-length : length (localItems s) ≡ localTo s - localFrom s
   local-length =
-      omega (arith, length-map (localItems s) (λ (x : Item). x .at), simp (length-take, length-drop) at (ap length local-positions), under-le (s .range .end + s .settings .length) (s .starts))
+      omega (arith, length-map (localItems s) (λ (x : Item). x .at), simp (length-take, length-drop) at (ap length local-positions), lower-le (s .range .end + s .settings .length) (s .starts))
 
   -- one by one, where the code reads them
   pub local-position : (i : ℕ) → i < length (localItems s) → position (localItems s) i ≡ getD (s .starts) (localFrom s + i) 0
@@ -123,4 +123,4 @@ strict-local s same up =
     let h = local-length s same asc in
     let a = local-position s same asc i (omega arith) in
     let b = local-position s same asc (i + 1) (omega arith) in
-    omega (arith, strict-at (s .starts) up (localFrom s + i) (localFrom s + (i + 1)) (omega arith) (omega (arith, under-le (s .range .end + s .settings .length) (s .starts))))
+    omega (arith, strict-at (s .starts) up (localFrom s + i) (localFrom s + (i + 1)) (omega arith) (omega (arith, lower-le (s .range .end + s .settings .length) (s .starts))))

@@ -61,7 +61,8 @@ module _ (items : List Item) (w rangeEnd : ℕ) where
   past-items : (fuel : ℕ) (t : Stop) → below (t .p + w) items ≡ t .e → length items ≤ t .e → Covered items w (stopsFrom fuel w rangeEnd items t) (startsFrom (t .p))
   unfolding goesOn
   past-items fuel t e h =
-      rw (stops-end items w rangeEnd fuel t (rw (le-ltb (t .e) (length items) h)), none-passes admits (rangeEnd + 1 - t .p) (t .p) λ q l. le-ltb (below (q + w) items) (length items) (omega (arith, below-mono (t .p + w) (q + w) items (omega arith)))) none
+      let full : (q : ℕ) → t .p ≤ q → admits q ≡ false = λ q l. le-ltb (below (q + w) items) (length items) (omega (arith, below-mono (t .p + w) (q + w) items (omega arith))) in
+      rw (stops-end items w rangeEnd fuel t (rw (le-ltb (t .e) (length items) h)), none-passes admits (rangeEnd + 1 - t .p) (t .p) full) none
 
   module _ (up : StrictAsc (positions items)) (some : 0 < w) where
     module _ (t : Stop) (a : At items w t) (inside : t .e < length items) where

@@ -1,18 +1,22 @@
--- The stops one by one, for a loop that goes from stop to stop; and the fuel never ends the sweep, whatever the positions: a stop that moves on passes
--- an item with b or with e, and neither passes the last.
+-- What the code of the minimizer sweep needs of the stops, one by one: how the list goes on from a stop, that the fuel never ends it, whatever the
+-- positions, since a stop that moves on passes an item with b or with e and neither passes the last, and that the distance table has the best's entry.
 -- Assumes nothing.
 use Prim.Native.Nat.{ℕ, zero, suc, _+_, _≤_, _<_, min}
 use mathlib.Core.Path.{_≡_, refl}
 use mathlib.Core.Logic.{⊎-elim}
 use mathlib.Core.Bool.{Bool, true, false}
-use mathlib.Core.List.{List, [], _∷_}
+use mathlib.Core.List.{List, [], _∷_, map}
 use native.Mathlib.Omega.{arith}
 use lib.ListN.{length, length-map, List·getD-eq-default}
 use lib.Dec.{eqb}
 use borrow.Author.Tests.{ltb-true, eq-eqb, eqb-true}
 use Rattle.base.specs.Pick.{pick}
+use Rattle.base.specs.Lists.{All}
 use Rattle.base.proofs.Order.{lt-or-ge}
-use Rattle.rules.specs.Minimizer.{Item, Stop, position, toBegin, toEnd, firstStop, goesOn, nextStop, moves, stopsFrom}
+use Rattle.rules.specs.Sweep.{Sweep, Scored, best}
+use Rattle.rules.specs.Minimizer.{Item, Stop, position, toBegin, toEnd, firstStop, goesOn, nextStop, moves, stopsFrom, stops, localItems, scoreItems, scoredStop, scoredStops}
+use Rattle.rules.proofs.Score.{score-most}
+use Rattle.rules.proofs.IntervalRounds.{best-most}
 use Rattle.rules.proofs.MinimizerPositions.{positions}
 
 module _ (items : List Item) (w rangeEnd : ℕ) where
@@ -74,3 +78,14 @@ module _ {items : List Item} {fuel : ℕ} {t : Stop} where
   -- while the sweep goes on there is fuel
   pub fuelled-some : Fuelled items fuel t → t .e < length items → 0 < fuel
   fuelled-some f l = omega (arith, f .enough, f .inside)
+
+-- ---- no score passes the number of query hashes, so the distance table has the entry of the best
+
+stops-most : (query : List ℕ) (items : List Item) (ts : List Stop) → All (λ v. v ≤ length query) (map (λ (x : Scored). x .score) (map (scoredStop query items) ts))
+unfolding scoredStop scoreItems
+stops-most query items [] = tt
+stops-most query items (t ∷ ts) = (score-most query _, stops-most query items ts)
+
+pub minimizer-most : (s : Sweep) → best (scoredStops s) .shared ≤ length (s .query)
+unfolding scoredStops
+minimizer-most s = best-most (length (s .query)) (scoredStops s) (stops-most (s .query) (localItems s) (stops s))
