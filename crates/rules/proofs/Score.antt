@@ -2,21 +2,22 @@
 -- are active, not how often or in which order they are listed. A hash's coordinate number is its place in such a list, so that what is counted by
 -- coordinate numbers through the pivot is the score.
 -- Assumes nothing.
-use Prim.Native.Nat.{ℕ, zero, suc, _+_, _-_, _≤_, _<_, min, max}
-use native.Mathlib.Nat.{le-of-suc-le-suc, not-suc-le-zero, suc-add}
+use Prim.Native.Nat.{ℕ, zero, suc, _+_, _-_, _≤_, _<_}
+use native.Mathlib.Nat.{le-of-suc-le-suc, not-suc-le-zero, suc-add, zero-add}
 use native.Mathlib.Omega.{arith}
 use mathlib.Core.Path.{_≡_, refl, sym, ap, subst, _∙_}
-use mathlib.Core.Logic.{_⊎_, inl, inr, ⊎-elim}
+use mathlib.Core.Logic.{_⊎_, inl, inr, ⊎-elim, _≢_}
 use mathlib.Core.Bool.{Bool, true, false, _||_, _&&_, false≢true, and-eq-true-iff, and-true, and-false, or-false}
 use mathlib.Core.List.{List, [], _∷_, _++_}
 use lib.ListN.{length, take, getD, length-append, length-take}
 use lib.Dec.{ltb, leb, eqb}
-use borrow.Author.Tests.{ltb-true, ltb-false, eqb-true, eqb-false, lt-ltb, le-ltb, le-leb, lt-leb, eq-eqb}
+use borrow.Author.Tests.{ltb-true, ltb-false, eqb-true, eqb-false, lt-ltb, le-ltb, le-leb, lt-leb, eq-eqb, ne-eqb}
 use Rattle.base.specs.Pick.{pick}
-use Rattle.base.specs.Lists.{All, StrictAsc}
-use Rattle.base.specs.Sort.{insert, sortOf}
-use Rattle.base.proofs.Lists.{all-map}
-use Rattle.base.proofs.Order.{lt-or-ge}
+use Rattle.base.specs.Lists.{All, StrictAsc, times}
+use Rattle.base.specs.Sort.{sortOf}
+use Rattle.base.proofs.Lists.{all-map, hit-same, hit-other}
+use Rattle.base.proofs.Order.{eq-or-ne}
+use Rattle.base.proofs.Sort.{times-sort, strict-unique}
 use Rattle.rules.specs.Lists.{member, count, filter}
 use Rattle.rules.specs.Score.{add, ascending, union, inBoth, score, numberOf, pivotHash}
 use Rattle.rules.specs.Script.{active, pivotOf, sharedOf}
@@ -55,29 +56,17 @@ getD-member (x ∷ xs) (suc i) l =
 pub below-all : (h : ℕ) (xs : List ℕ) → All (λ y. h < y) xs → member h xs ≡ false
 below-all h xs a = ⊎-elim (λ (e : member h xs ≡ true). absurd (omega (arith, all-member (λ y. h < y) xs a h e))) (λ (e : member h xs ≡ false). e) (cases (member h xs))
 
-or-swap : (a b c : Bool) → (a || (b || c)) ≡ (b || (a || c))
-or-swap true true c = refl
-or-swap true false c = refl
-or-swap false b c = refl
-
-member-insert : (h x : ℕ) (ys : List ℕ) → member h (insert x ys) ≡ (eqb h x || member h ys)
-unfolding member insert
-member-insert h x [] = refl
-member-insert h x (y ∷ ys) =
-    ⊎-elim (λ (l : x < y).
-    let lo : min x y ≡ x = omega arith in
-    let hi : max x y ≡ y = omega arith in
-    rw (lo, hi, member-insert h y ys))
-    (λ (l : y ≤ x).
-    let lo : min x y ≡ y = omega arith in
-    let hi : max x y ≡ x = omega arith in
-    rw (lo, hi, member-insert h x ys) (or-swap (eqb h y) (eqb h x) (member h ys))) (lt-or-ge x y)
+-- a member stands there at least once
+pub member-times : (h : ℕ) (xs : List ℕ) → member h xs ≡ ltb 0 (times h xs)
+unfolding member times
+member-times h [] = refl
+member-times h (x ∷ xs) =
+    ⊎-elim (λ (e : h ≡ x). rw (e, eq-eqb x x refl, hit-same x) (sym (lt-ltb 0 (1 + times x xs) (omega arith))))
+    (λ (n : h ≢ x). rw (ne-eqb h x n, hit-other h x n, zero-add) (member-times h xs)) (eq-or-ne h x)
 
 -- sorting keeps the members
 pub member-sort : (h : ℕ) (xs : List ℕ) → member h (sortOf xs) ≡ member h xs
-unfolding member sortOf
-member-sort h [] = refl
-member-sort h (x ∷ xs) = member-insert h x (sortOf xs) ∙ ap (λ (t : Bool). eqb h x || t) (member-sort h xs)
+member-sort h xs = member-times h (sortOf xs) ∙ ap (ltb 0) (times-sort h xs) ∙ sym (member-times h xs)
 
 -- ---- counting and filtering
 
@@ -127,6 +116,11 @@ strict-filter t (x ∷ xs) r =
     ⊎-elim (λ (e : t x ≡ true). rw e (all-filter (λ y. x < y) t xs (r .0), strict-filter t xs (r .1))) (λ (e : t x ≡ false). rw e (strict-filter t xs (r .1))) (cases (t x))
 
 -- ---- ascending
+
+or-swap : (a b c : Bool) → (a || (b || c)) ≡ (b || (a || c))
+or-swap true true c = refl
+or-swap true false c = refl
+or-swap false b c = refl
 
 or-twice : (a b : Bool) → (a || b) ≡ (a || (a || b))
 or-twice true b = refl
@@ -186,25 +180,11 @@ length-ascending (x ∷ xs) = omega (arith, length-add x (ascending xs), length-
 
 -- ---- two strictly ascending lists with the same members are one
 
-strict-first : (x y : ℕ) (xs ys : List ℕ) → StrictAsc (y ∷ ys) → ((h : ℕ) → member h (x ∷ xs) ≡ member h (y ∷ ys)) → y ≤ x
-unfolding member
-strict-first x y xs ys r e =
-    all-member (λ z. y ≤ z) (y ∷ ys) (omega arith, all-map (λ z. y < z) (λ z. y ≤ z) (λ z l. omega arith) ys (r .0)) x (sym (e x) ∙ rw (eq-eqb x x refl))
-
 pub strict-same : (xs ys : List ℕ) → StrictAsc xs → StrictAsc ys → ((h : ℕ) → member h xs ≡ member h ys) → xs ≡ ys
-unfolding member
-strict-same [] [] r s e = refl
-strict-same [] (y ∷ ys) r s e = absurd (false≢true (e y ∙ rw (eq-eqb y y refl)))
-strict-same (x ∷ xs) [] r s e = absurd (false≢true (sym (e x) ∙ rw (eq-eqb x x refl)))
-strict-same (x ∷ xs) (y ∷ ys) r s e =
-    let same : x ≡ y = omega (arith, strict-first x y xs ys s e, strict-first y x ys xs r (λ h. sym (e h))) in
-    let rest : (h : ℕ) → member h xs ≡ member h ys = λ h.
-    ⊎-elim (λ (f : eqb h x ≡ true).
-    let hx : h ≡ x = eqb-true h x f in
-    rw hx (below-all x xs (r .0) ∙ sym (rw same (below-all y ys (s .0)))))
-    (λ (f : eqb h x ≡ false). let g : eqb h y ≡ false = rw same at f in rw (f, g) at (e h)) (cases (eqb h x)) in
-    let tail : xs ≡ ys = strict-same xs ys (r .1) (s .1) rest in
-    cc
+strict-same xs ys r s e = strict-unique xs ys r s (λ h l. stands xs ys h (e h) l) (λ h l. stands ys xs h (sym (e h)) l)
+  where
+    stands : (us vs : List ℕ) (h : ℕ) → member h us ≡ member h vs → 0 < times h us → 0 < times h vs
+    stands us vs h f l = ltb-true 0 (times h vs) (sym (member-times h vs) ∙ sym f ∙ member-times h us ∙ lt-ltb 0 (times h us) l)
 
 -- ---- the score asks only which hashes are active
 
