@@ -6,7 +6,8 @@ use oracle::generate::Size;
 
 const USAGE: &str = "usage: oracle examples
        oracle diff SEED COUNT [small|medium|limit]
-       oracle exhaust";
+       oracle exhaust
+       oracle differences";
 
 fn main() -> ExitCode {
     let arguments: Vec<String> = std::env::args().skip(1).collect();
@@ -28,6 +29,7 @@ fn run(arguments: &[&str]) -> Option<bool> {
         ["diff", seed, count] => diff(seed, count, None),
         ["diff", seed, count, size] => diff(seed, count, Some(size)),
         ["exhaust"] => Some(oracle::exhaust::run()),
+        ["differences"] => Some(oracle::differences::run()),
         _ => None,
     }
 }
