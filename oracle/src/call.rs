@@ -142,5 +142,8 @@ pub struct Candidate {
 #[derive(Clone, Debug, PartialEq, Eq)]
 pub enum FinderAnswer {
     Refused(Refusal),
-    Listed { ranges: Vec<Candidate>, seed_hits: u32 },
+    Listed {
+        ranges: Vec<Candidate>,
+        seed_hits: u32,
+    },
 }
