@@ -38,5 +38,8 @@ mod mapper_with_pivot;
 pub mod call;
 pub mod case;
 pub mod examples;
+pub mod job_command;
 pub mod model;
 pub mod original;
+pub mod random;
+pub mod vectors;

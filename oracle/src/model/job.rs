@@ -1,6 +1,7 @@
 //! The job file, from document 01: fields of tag, length and data, read from the front until the first that is wrong.
 
-use crate::call::{Mode, SweepCall, SweepRoom};
+use super::needs;
+use crate::call::{Mode, SweepCall};
 
 /// A file refusal's number (11 to 17) and the byte offset of the field's tag.
 #[derive(Clone, Copy, Debug, PartialEq, Eq)]
@@ -41,14 +42,14 @@ pub struct Pair {
 /// A job has at most this many bytes; the program reads one more to see that it is too long.
 pub const JOB_LIMIT: usize = 65_535;
 
-const VERSION: u8 = 0x01;
-const MODE: u8 = 0x02;
-const SETTINGS: u8 = 0x03;
-const MINIMUM: u8 = 0x04;
-const QUERY: u8 = 0x05;
-const ITEMS: u8 = 0x06;
-const ESTIMATES: u8 = 0x07;
-const END: u8 = 0xff;
+pub const VERSION: u8 = 0x01;
+pub const MODE: u8 = 0x02;
+pub const SETTINGS: u8 = 0x03;
+pub const MINIMUM: u8 = 0x04;
+pub const QUERY: u8 = 0x05;
+pub const ITEMS: u8 = 0x06;
+pub const ESTIMATES: u8 = 0x07;
+pub const END: u8 = 0xff;
 
 /// One row for each kind of field.
 struct Kind {
@@ -63,8 +64,22 @@ struct Kind {
     limit: usize,
 }
 
-const fn kind(tag: u8, unit: [usize; 2], one: bool, repeats: bool, needed: bool, limit: usize) -> Kind {
-    Kind { tag, unit, one, repeats, needed, limit }
+const fn kind(
+    tag: u8,
+    unit: [usize; 2],
+    one: bool,
+    repeats: bool,
+    needed: bool,
+    limit: usize,
+) -> Kind {
+    Kind {
+        tag,
+        unit,
+        one,
+        repeats,
+        needed,
+        limit,
+    }
 }
 
 const TABLE: [Kind; 8] = [
@@ -86,7 +101,10 @@ struct Field<'a> {
 }
 
 fn refuse<T>(number: u8, offset: usize) -> Result<T, FileRefusal> {
-    Err(FileRefusal { number, offset: offset as u32 })
+    Err(FileRefusal {
+        number,
+        offset: offset as u32,
+    })
 }
 
 /// The job, or the first refusal met from the front.
@@ -122,7 +140,11 @@ fn field_at(bytes: &[u8], offset: usize) -> Result<Field<'_>, FileRefusal> {
     if rest.len() < 3 + length {
         return refuse(12, offset);
     }
-    Ok(Field { offset, tag: rest[0], data: &rest[3..3 + length] })
+    Ok(Field {
+        offset,
+        tag: rest[0],
+        data: &rest[3..3 + length],
+    })
 }
 
 /// 13 to 16, in this order, for a whole field after those seen.
@@ -168,7 +190,10 @@ fn wrong_value(field: &Field) -> bool {
 
 /// The data of all fields with a tag, joined.
 fn joined(seen: &[Field], tag: u8) -> Vec<u8> {
-    let data = seen.iter().filter(|field| field.tag == tag).map(|field| field.data);
+    let data = seen
+        .iter()
+        .filter(|field| field.tag == tag)
+        .map(|field| field.data);
     data.collect::<Vec<_>>().concat()
 }
 
@@ -194,18 +219,35 @@ fn decode(seen: &[Field]) -> Job {
         start: u32_at(unit, 8),
         end: if interval { u32_at(unit, 12) } else { 0 },
     };
-    let pair = |unit: &[u8]| Pair { identity_bits: u64_at(unit, 0), upper_bits: u64_at(unit, 8) };
+    let pair = |unit: &[u8]| Pair {
+        identity_bits: u64_at(unit, 0),
+        upper_bits: u64_at(unit, 8),
+    };
     Job {
-        mode: if interval { Mode::Interval } else { Mode::Minimizer },
+        mode: if interval {
+            Mode::Interval
+        } else {
+            Mode::Minimizer
+        },
         kmer: u32_at(&settings, 0),
         window: u32_at(&settings, 4),
         length: u32_at(&settings, 8),
         range_start: u32_at(&settings, 12),
         range_end: u32_at(&settings, 16),
         // Absent means 0.0, whose bits are 0.
-        minimum_bits: if minimum.is_empty() { 0 } else { u64_at(&minimum, 0) },
-        query: joined(seen, QUERY).chunks_exact(8).map(|unit| u64_at(unit, 0)).collect(),
-        items: joined(seen, ITEMS).chunks_exact(if interval { 16 } else { 12 }).map(item).collect(),
+        minimum_bits: if minimum.is_empty() {
+            0
+        } else {
+            u64_at(&minimum, 0)
+        },
+        query: joined(seen, QUERY)
+            .chunks_exact(8)
+            .map(|unit| u64_at(unit, 0))
+            .collect(),
+        items: joined(seen, ITEMS)
+            .chunks_exact(if interval { 16 } else { 12 })
+            .map(item)
+            .collect(),
         estimates: joined(seen, ESTIMATES).chunks_exact(16).map(pair).collect(),
     }
 }
@@ -213,7 +255,6 @@ fn decode(seen: &[Field]) -> Job {
 impl Job {
     /// What the library is asked. The program's buffers are never too short.
     pub fn sweep(&self) -> SweepCall {
-        let m = self.query.len() + self.items.len();
         let interval = self.mode == Mode::Interval;
         SweepCall {
             mode: self.mode,
@@ -225,59 +266,24 @@ impl Job {
             query: self.query.clone(),
             hashes: self.items.iter().map(|item| item.hash).collect(),
             starts: self.items.iter().map(|item| item.start).collect(),
-            ends: self.items.iter().filter(|_| interval).map(|item| item.end).collect(),
-            identities: self.estimates.iter().map(|pair| f64::from_bits(pair.identity_bits)).collect(),
-            uppers: self.estimates.iter().map(|pair| f64::from_bits(pair.upper_bits)).collect(),
+            ends: self
+                .items
+                .iter()
+                .filter(|_| interval)
+                .map(|item| item.end)
+                .collect(),
+            identities: self
+                .estimates
+                .iter()
+                .map(|pair| f64::from_bits(pair.identity_bits))
+                .collect(),
+            uppers: self
+                .estimates
+                .iter()
+                .map(|pair| f64::from_bits(pair.upper_bits))
+                .collect(),
             minimum: f64::from_bits(self.minimum_bits),
-            room: SweepRoom {
-                hashes: m,
-                counts: m,
-                items: m,
-                words: m.div_ceil(64),
-                summary: m.div_ceil(64).div_ceil(64),
-                events: 2 * self.items.len(),
-            },
+            room: needs::sweep(self.mode, self.query.len(), self.items.len()),
         }
     }
-
-    /// The job's bytes, a field of each kind; 04 stands only where it is not 0.0. Data that no one field can hold goes on
-    /// in another.
-    pub fn write(&self) -> Vec<u8> {
-        let interval = self.mode == Mode::Interval;
-        let settings = [self.kmer, self.window, self.length, self.range_start, self.range_end];
-        let mut out = field(VERSION, &[1]);
-        out.extend(field(MODE, &[u8::from(interval)]));
-        out.extend(field(SETTINGS, &settings.map(u32::to_le_bytes).concat()));
-        if self.minimum_bits != 0 {
-            out.extend(field(MINIMUM, &self.minimum_bits.to_le_bytes()));
-        }
-        out.extend(field(QUERY, &self.query.iter().flat_map(|hash| hash.to_le_bytes()).collect::<Vec<_>>()));
-        out.extend(items_field(self.mode, &self.items));
-        out.extend(estimates_field(&self.estimates));
-        out.extend(field(END, &[]));
-        out
-    }
-}
-
-/// A field's bytes.
-pub fn field(tag: u8, data: &[u8]) -> Vec<u8> {
-    let length = u16::try_from(data.len()).expect("a field holds at most 65,535 bytes");
-    [&[tag], &length.to_le_bytes()[..], data].concat()
-}
-
-pub fn items_field(mode: Mode, items: &[Item]) -> Vec<u8> {
-    let mut data = Vec::new();
-    for item in items {
-        data.extend(item.hash.to_le_bytes());
-        data.extend(item.start.to_le_bytes());
-        if mode == Mode::Interval {
-            data.extend(item.end.to_le_bytes());
-        }
-    }
-    field(ITEMS, &data)
-}
-
-pub fn estimates_field(estimates: &[Pair]) -> Vec<u8> {
-    let words = estimates.iter().flat_map(|pair| [pair.identity_bits, pair.upper_bits]);
-    field(ESTIMATES, &words.flat_map(u64::to_le_bytes).collect::<Vec<_>>())
 }

@@ -14,7 +14,10 @@ pub fn printed(bytes: &[u8], sweep: impl Fn(&SweepCall) -> SweepAnswer) -> Strin
 /// What it prints where reading failed after these bytes: their refusal, or that a whole job was not seen to end.
 pub fn printed_after_failure(bytes: &[u8]) -> String {
     match read(bytes) {
-        Ok(_) => file_line(FileRefusal { number: 12, offset: bytes.len() as u32 }),
+        Ok(_) => file_line(FileRefusal {
+            number: 12,
+            offset: bytes.len() as u32,
+        }),
         Err(refusal) => file_line(refusal),
     }
 }
@@ -23,7 +26,9 @@ fn answer_lines(job: &Job, answer: SweepAnswer) -> String {
     match answer {
         SweepAnswer::Refused(refusal) => refused_line(refusal.number, refusal.place),
         SweepAnswer::Nothing(stats) => format!("none\n{}", counts_line(stats)),
-        SweepAnswer::Placed(place, stats) => mapped_line(place) + &identity_line(job, place) + &counts_line(stats),
+        SweepAnswer::Placed(place, stats) => {
+            mapped_line(place) + &identity_line(job, place) + &counts_line(stats)
+        }
     }
 }
 
@@ -36,15 +41,24 @@ fn refused_line(number: u8, place: u32) -> String {
 }
 
 fn mapped_line(place: Place) -> String {
-    format!("mapped {} {} {} {}\n", place.start, place.end, place.shared, place.size)
+    format!(
+        "mapped {} {} {} {}\n",
+        place.start, place.end, place.shared, place.size
+    )
 }
 
 /// The bits as they stood in the job, not as they come back through a float.
 fn identity_line(job: &Job, place: Place) -> String {
     let pair = job.estimates[place.shared as usize];
-    format!("identity {:016x} {:016x}\n", pair.identity_bits, pair.upper_bits)
+    format!(
+        "identity {:016x} {:016x}\n",
+        pair.identity_bits, pair.upper_bits
+    )
 }
 
 fn counts_line(stats: Stats) -> String {
-    format!("counts {} {} {}\n", stats.windows, stats.coords, stats.items)
+    format!(
+        "counts {} {} {}\n",
+        stats.windows, stats.coords, stats.items
+    )
 }

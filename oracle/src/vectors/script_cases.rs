@@ -1,40 +1,34 @@
 //! Scripts: drawn ones, each fault in them, and those at the edges.
 
-use super::chance::{repeat_neighbour, spoilt, swap_neighbours, Chance, Fault};
-use crate::call::{ScriptCall, ScriptRoom};
+use std::collections::BTreeMap;
 
-pub fn cases(chance: &mut Chance) -> Vec<ScriptCall> {
-    let mut cases = vec![example_a(), without_steps(), full_query()];
-    cases.extend((0..200).map(|_| small(chance)));
-    cases.extend(spoilt(small, FAULTS, 6, chance));
-    cases.extend((0..6).map(|_| drawn(chance, 400, 600)));
-    cases.push(drawn(chance, 4_200, 500));
+use super::draw::{
+    ascending, index, repeat_neighbour, sized, some_of, spoilt, swap_neighbours, those_that_hold,
+    Fault,
+};
+use crate::call::ScriptCall;
+use crate::model::needs;
+use crate::random::Random;
+
+pub fn cases(random: &mut Random) -> Vec<ScriptCall> {
+    let mut cases = vec![without_steps(), full_query(), query_too_long()];
+    cases.extend(three_words());
+    cases.extend((0..200).map(|_| small(random)));
+    cases.extend(spoilt(random, rich, FAULTS, 6));
+    cases.extend((0..5).map(|_| drawn(random, 400, 600)));
+    cases.push(drawn(random, 4_200, 500));
     cases
 }
 
-/// A script with exactly the room it needs.
-pub fn script(query: &[u64], coords: &[u64], steps: &[(u32, u8)]) -> ScriptCall {
-    let m = coords.len();
+/// A script with exactly the room it needs. A step is an index and a kind.
+fn script(query: &[u64], coords: &[u64], steps: &[(u32, u8)]) -> ScriptCall {
     ScriptCall {
         query: query.to_vec(),
         coords: coords.to_vec(),
         indexes: steps.iter().map(|step| step.0).collect(),
         kinds: steps.iter().map(|step| step.1).collect(),
-        room: ScriptRoom {
-            counts: m,
-            words: m.div_ceil(64),
-            summary: m.div_ceil(64).div_ceil(64),
-            pivots: steps.len(),
-            shared: steps.len(),
-        },
+        room: needs::script(coords.len(), steps.len()),
     }
-}
-
-fn example_a() -> ScriptCall {
-    let steps = [
-        (1, 1), (0, 1), (3, 1), (0, 1), (0, 0), (0, 0), (2, 0), (4, 1), (1, 0), (2, 1),
-    ];
-    script(&[20, 40], &[10, 20, 30, 40, 50], &steps)
 }
 
 fn without_steps() -> ScriptCall {
@@ -46,27 +40,52 @@ fn full_query() -> ScriptCall {
     script(&(0..4_096).collect::<Vec<_>>(), &[0, 1, 2], &[])
 }
 
-fn small(chance: &mut Chance) -> ScriptCall {
-    let count = chance.within(1..=12);
-    let steps = chance.below(20);
-    drawn(chance, count, steps)
+/// One hash more: the missing ones come later in the order of checks.
+fn query_too_long() -> ScriptCall {
+    script(&(0..4_097).collect::<Vec<_>>(), &[0, 1, 2], &[])
+}
+
+/// 129 coordinates take three bit words: all three lent, and one fewer.
+fn three_words() -> [ScriptCall; 2] {
+    let coords: Vec<u64> = (0..129).collect();
+    let enough = script(&[3, 128], &coords, &[(127, 1), (0, 1), (128, 1), (0, 0)]);
+    let mut short = enough.clone();
+    short.room.words = 2;
+    [enough, short]
+}
+
+/// With two query hashes or more, and steps.
+fn rich(random: &mut Random) -> ScriptCall {
+    loop {
+        let call = small(random);
+        if call.query.len() >= 2 && !call.indexes.is_empty() {
+            return call;
+        }
+    }
+}
+
+fn small(random: &mut Random) -> ScriptCall {
+    let count = sized(random, 1, 12);
+    let steps = sized(random, 0, 19);
+    drawn(random, count, steps)
 }
 
 /// Inserts and deletes in equal parts, about a third of the coordinates in the query, room to spare now and then.
-fn drawn(chance: &mut Chance, count: usize, steps: usize) -> ScriptCall {
-    let coords = chance.ascending(count);
-    let mut query = chance.some_of(&coords, 3);
+fn drawn(random: &mut Random, count: usize, steps: usize) -> ScriptCall {
+    let coords = ascending(random, count);
+    let mut query = some_of(random, &coords, 3);
     if query.is_empty() {
-        query.push(chance.pick(&coords));
+        query.push(random.pick(&coords));
     }
-    let step = |chance: &mut Chance| (chance.below(coords.len()) as u32, chance.below(2) as u8);
-    let steps: Vec<_> = (0..steps).map(|_| step(chance)).collect();
+    let steps: Vec<(u32, u8)> = (0..steps)
+        .map(|_| (index(random, coords.len()) as u32, random.below(2) as u8))
+        .collect();
     let mut call = script(&query, &coords, &steps);
-    call.room.counts += chance.pick(&[0, 0, 3]);
-    call.room.words += chance.pick(&[0, 0, 2]);
-    call.room.summary += chance.pick(&[0, 0, 1]);
-    call.room.pivots += chance.pick(&[0, 0, 4]);
-    call.room.shared += chance.pick(&[0, 0, 5]);
+    call.room.counts += random.pick(&[0, 0, 3]);
+    call.room.words += random.pick(&[0, 0, 2]);
+    call.room.summary += random.pick(&[0, 0, 1]);
+    call.room.pivots += random.pick(&[0, 0, 4]);
+    call.room.shared += random.pick(&[0, 0, 5]);
     call
 }
 
@@ -75,13 +94,13 @@ const FAULTS: &[Fault<ScriptCall>] = &[
     |call, _| call.kinds.push(0),
     |call, _| call.indexes.push(0),
     |call, _| call.query.clear(),
-    |call, chance| swap_neighbours(&mut call.query, chance),
-    |call, chance| repeat_neighbour(&mut call.query, chance),
-    |call, chance| swap_neighbours(&mut call.coords, chance),
-    |call, chance| repeat_neighbour(&mut call.coords, chance),
+    |call, random| swap_neighbours(random, &mut call.query),
+    |call, random| repeat_neighbour(random, &mut call.query),
+    |call, random| swap_neighbours(random, &mut call.coords),
+    |call, random| repeat_neighbour(random, &mut call.coords),
     lose_a_query_hash,
-    |call, chance| spoil_step(call, chance, true),
-    |call, chance| spoil_step(call, chance, false),
+    index_past,
+    unknown_kind,
     |call, _| call.room.counts = call.coords.len().saturating_sub(1),
     |call, _| call.room.words = 0,
     |call, _| call.room.summary = 0,
@@ -90,49 +109,62 @@ const FAULTS: &[Fault<ScriptCall>] = &[
 ];
 
 /// Takes a query hash from the coordinates.
-fn lose_a_query_hash(call: &mut ScriptCall, chance: &mut Chance) {
+fn lose_a_query_hash(call: &mut ScriptCall, random: &mut Random) {
     if !call.query.is_empty() {
-        let hash = chance.pick(&call.query);
+        let hash = random.pick(&call.query);
         call.coords.retain(|&coord| coord != hash);
     }
 }
 
-/// An index past the coordinates, or a kind that is neither 0 nor 1, at some step.
-fn spoil_step(call: &mut ScriptCall, chance: &mut Chance, index: bool) {
-    if call.indexes.is_empty() || call.indexes.len() != call.kinds.len() {
-        return;
-    }
-    let at = chance.below(call.indexes.len());
-    if index {
-        call.indexes[at] = chance.pick(&[call.coords.len() as u32, u32::MAX]);
-    } else {
-        call.kinds[at] = chance.pick(&[2, 255]);
+fn index_past(call: &mut ScriptCall, random: &mut Random) {
+    if !call.indexes.is_empty() {
+        let at = index(random, call.indexes.len());
+        call.indexes[at] = random.pick(&[call.coords.len() as u32, u32::MAX]);
     }
 }
 
-/// What a script and its answer show, for the census.
+fn unknown_kind(call: &mut ScriptCall, random: &mut Random) {
+    if !call.kinds.is_empty() {
+        let at = index(random, call.kinds.len());
+        call.kinds[at] = random.pick(&[2, 255]);
+    }
+}
+
+/// What an accepted script shows, for the census.
 pub fn shows(call: &ScriptCall) -> Vec<&'static str> {
-    let mut kinds = Vec::new();
-    let mut note = |holds: bool, kind| {
-        if holds {
-            kinds.push(kind);
-        }
-    };
-    note(call.indexes.is_empty(), "no steps");
-    note(call.coords.iter().any(|&hash| hash >> 63 == 1), "upper-half hashes");
-    note(call.coords.len() > 64, "two bit words");
-    note(call.coords.len() > 4_096, "two summary words");
-    note(deletes_at_0(call), "delete at count 0");
-    kinds
+    let upper_half = |&hash: &u64| hash >> 63 == 1;
+    those_that_hold(&[
+        (true, "done"),
+        (call.indexes.is_empty(), "no steps"),
+        (deletes_at_0(call), "delete at count 0"),
+        (call.coords.iter().any(upper_half), "upper-half hashes"),
+        (call.coords.len() > 64, "two bit words"),
+        (call.coords.len() > 4_096, "two summary words"),
+    ])
+}
+
+/// What a script refused with 6 shows: 6 comes of the query, of a step's index or of a step's kind.
+pub fn shows_6(call: &ScriptCall, place: u32) -> &'static str {
+    let at = place as usize;
+    if call.query.iter().any(|hash| !call.coords.contains(hash)) {
+        return "refused 6 for the query";
+    }
+    if call.indexes[at] as usize >= call.coords.len() {
+        return "refused 6 for an index";
+    }
+    "refused 6 for a kind"
 }
 
 fn deletes_at_0(call: &ScriptCall) -> bool {
-    let mut counts = std::collections::BTreeMap::new();
+    let mut counts: BTreeMap<u32, u32> = BTreeMap::new();
     let mut met = false;
     for (&index, &kind) in call.indexes.iter().zip(&call.kinds) {
-        let count = counts.entry(index).or_insert(0_u32);
+        let count = counts.entry(index).or_default();
         met |= kind == 0 && *count == 0;
-        *count = if kind == 0 { count.saturating_sub(1) } else { *count + 1 };
+        *count = match kind {
+            0 => count.saturating_sub(1),
+            _ => *count + 1,
+        };
     }
     met
 }
