@@ -101,6 +101,11 @@ fn judge_sweep(call: &SweepCall, patience: Patience) -> Judged {
     if !same {
         judged.difference = Some(format!("original {original:?}\n   model {modelled:?}"));
     }
+    if let (Some(best), _) = model::by_steps(call) {
+        if best.first < best.last {
+            judged.kinds.push("best at several positions");
+        }
+    }
     if model::in_premises(call) {
         judge_scoring(call, patience, &mut judged);
     }

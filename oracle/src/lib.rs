@@ -37,9 +37,13 @@ mod mapper_with_pivot;
 
 pub mod call;
 pub mod case;
+pub mod diff;
 pub mod examples;
+pub mod exhaust;
+pub mod generate;
 pub mod job_command;
 pub mod model;
 pub mod original;
 pub mod random;
+pub mod shrink;
 pub mod vectors;

@@ -3,35 +3,60 @@
 use std::path::Path;
 use std::process::ExitCode;
 
-const USAGE: &str =
-    "usage: oracle examples | job < FILE | jobs SEED COUNT | vectors [--check] FOLDER";
+use oracle::generate::Size;
+
+const USAGE: &str = "usage: oracle examples
+       oracle diff SEED COUNT [small|medium|limit]
+       oracle exhaust
+       oracle job < FILE
+       oracle jobs SEED COUNT
+       oracle vectors FOLDER
+       oracle vectors --check FOLDER";
 
 fn main() -> ExitCode {
     let arguments: Vec<String> = std::env::args().skip(1).collect();
     let arguments: Vec<&str> = arguments.iter().map(String::as_str).collect();
-    let all_ok = match arguments.as_slice() {
-        ["examples"] => oracle::examples::run(),
-        ["job"] => oracle::job_command::job(),
-        ["jobs", seed, count] => jobs(seed, count),
-        ["vectors", "--check", folder] => oracle::vectors::check(Path::new(folder)),
-        ["vectors", folder] => oracle::vectors::write(Path::new(folder)),
-        _ => {
+    match run(&arguments) {
+        Some(true) => ExitCode::SUCCESS,
+        Some(false) => ExitCode::FAILURE,
+        None => {
             eprintln!("{USAGE}");
-            return ExitCode::from(2);
+            ExitCode::from(2)
         }
-    };
-    match all_ok {
-        true => ExitCode::SUCCESS,
-        false => ExitCode::FAILURE,
     }
 }
 
-fn jobs(seed: &str, count: &str) -> bool {
-    match (seed.parse(), count.parse()) {
-        (Ok(seed), Ok(count)) => oracle::job_command::compare(seed, count),
-        _ => {
-            eprintln!("{USAGE}");
-            false
-        }
+/// Whether all was well, or none where the arguments are not understood.
+fn run(arguments: &[&str]) -> Option<bool> {
+    match arguments {
+        ["examples"] => Some(oracle::examples::run()),
+        ["diff", seed, count] => diff(seed, count, None),
+        ["diff", seed, count, size] => diff(seed, count, Some(size)),
+        ["exhaust"] => Some(oracle::exhaust::run()),
+        ["job"] => Some(oracle::job_command::job()),
+        ["jobs", seed, count] => jobs(seed, count),
+        ["vectors", "--check", folder] => Some(oracle::vectors::check(Path::new(folder))),
+        ["vectors", folder] => Some(oracle::vectors::write(Path::new(folder))),
+        _ => None,
     }
+}
+
+fn diff(seed: &str, count: &str, size: Option<&str>) -> Option<bool> {
+    let size = match size {
+        None => None,
+        Some("small") => Some(Size::Small),
+        Some("medium") => Some(Size::Medium),
+        Some("limit") => Some(Size::Limit),
+        Some(_) => return None,
+    };
+    Some(oracle::diff::run(
+        seed.parse().ok()?,
+        count.parse().ok()?,
+        size,
+    ))
+}
+
+fn jobs(seed: &str, count: &str) -> Option<bool> {
+    let (seed, count) = (seed.parse().ok()?, count.parse().ok()?);
+    Some(oracle::job_command::compare(seed, count))
 }

@@ -102,19 +102,18 @@ fn scored_spans(call: &SweepCall, taken: &[Interval]) -> Vec<Scored> {
     scored
 }
 
-/// As in a script: deleting at count 0 does nothing.
+/// As in a script: deleting at count 0 does nothing. Only counts above 0 are kept.
 fn apply(counts: &mut BTreeMap<u64, u32>, event: &Event) {
-    let count = counts.entry(event.hash).or_default();
-    *count = if event.insert {
-        *count + 1
-    } else {
-        count.saturating_sub(1)
+    let count = counts.get(&event.hash).copied().unwrap_or(0);
+    match (event.insert, count) {
+        (true, _) => counts.insert(event.hash, count + 1),
+        (false, 0 | 1) => counts.remove(&event.hash),
+        (false, _) => counts.insert(event.hash, count - 1),
     };
 }
 
 fn scored_span(call: &SweepCall, counts: &BTreeMap<u64, u32>, first: i64, last: i64) -> Scored {
-    let active = counts.iter().filter(|(_, &count)| count > 0);
-    let active: Vec<u64> = active.map(|(&hash, _)| hash).collect();
+    let active: Vec<u64> = counts.keys().copied().collect();
     Scored {
         shared: score(&call.query, &active),
         first,

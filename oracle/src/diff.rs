@@ -1,0 +1,73 @@
+//! `oracle diff`: random cases, the original against the model, and the model's steps against scoring every start.
+
+use std::collections::BTreeMap;
+use std::time::Instant;
+
+use crate::case::{Case, Patience, LIMIT_PATIENCE, SMALL_PATIENCE};
+use crate::generate::{self, Size};
+use crate::random::Random;
+use crate::shrink::shrunk;
+
+/// How often each kind of answer came, by call.
+#[derive(Default)]
+pub struct Tally {
+    counts: BTreeMap<(&'static str, &'static str), u64>,
+    cases: u64,
+}
+
+impl Tally {
+    /// Judges the case and counts it; a difference is shrunk and printed, and the answer is whether there was none.
+    pub fn judge(&mut self, case: &Case, patience: Patience) -> bool {
+        let judged = case.judge(patience);
+        self.cases += 1;
+        for kind in judged.kinds {
+            *self.counts.entry((case.call_name(), kind)).or_default() += 1;
+        }
+        if judged.difference.is_none() {
+            return true;
+        }
+        report(case, patience);
+        false
+    }
+
+    pub fn print(&self, seconds: f64) {
+        for ((call, kind), count) in &self.counts {
+            println!("{call:16} {kind:36} {count:>10}");
+        }
+        println!("{} cases, {seconds:.1} s", self.cases);
+    }
+}
+
+fn report(case: &Case, patience: Patience) {
+    let case = shrunk(case, patience);
+    println!("DIFFERENCE in {}", case.call_name());
+    println!("{case:?}");
+    if let Some(difference) = case.judge(patience).difference {
+        println!("{difference}");
+    }
+}
+
+/// Mostly small cases, or all of one size; stops at the first difference and answers whether there was none.
+pub fn run(seed: u64, count: u64, only: Option<Size>) -> bool {
+    let began = Instant::now();
+    let mut random = Random::new(seed);
+    let mut tally = Tally::default();
+    let mut all_same = true;
+    for _ in 0..count {
+        let size = only.unwrap_or(match random.once_in(500) {
+            true => Size::Medium,
+            false => Size::Small,
+        });
+        let patience = match size {
+            Size::Small => SMALL_PATIENCE,
+            Size::Medium | Size::Limit => LIMIT_PATIENCE,
+        };
+        all_same = tally.judge(&generate::case(&mut random, size), patience);
+        if !all_same {
+            break;
+        }
+    }
+    println!("seed {seed}");
+    tally.print(began.elapsed().as_secs_f64());
+    all_same
+}
