@@ -32,7 +32,7 @@ pub fn lines_of(input: &Input) -> String {
 }
 
 /// The original, which refuses nothing, behind the model's checks.
-fn original_sweep(call: &SweepCall) -> SweepAnswer {
+pub fn original_sweep(call: &SweepCall) -> SweepAnswer {
     match model::refusals::sweep(call) {
         Err(refusal) => SweepAnswer::Refused(refusal),
         Ok(()) => original::sweep(call).expect("the original takes what the model accepts"),
