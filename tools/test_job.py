@@ -2,7 +2,7 @@
 """Tests of tools/job: python3 tools/test_job.py
 
 Every example packs to its job; every job, whole or damaged, survives show and pack; and where the expected line is a
-file refusal, show breaks off with the same number at the same byte.
+file refusal, show breaks off with the same number at the same byte. The stored vectors' jobs too.
 """
 
 import importlib.machinery
@@ -96,6 +96,35 @@ class Damage(unittest.TestCase):
         for _ in range(3000):
             data = bytes(chance.choice([0, 1, 2, 3, 5, 6, 7, 12, 255]) for _ in range(chance.randrange(40)))
             self.assertEqual(again(data), data, data.hex())
+
+
+def stored_jobs():
+    """Job and expected lines of each stored vector that came to its end (oracle/README.md says how they stand)."""
+    data = (HERE.parent / "crates/replay/data/jobs.bin").read_bytes()
+    word = lambda at: struct.unpack_from("<Q", data, at)[0]
+    at = 32
+    for _ in range(word(16)):
+        size, lines, failed = word(at + 8), word(at + 16), word(at + 24)
+        start = at + 32 + (size + 7) // 8 * 8
+        if not failed:
+            yield data[at + 32 : at + 32 + size], data[start : start + lines].decode()
+        at += 8 * word(at)
+
+
+class Stored(unittest.TestCase):
+    """This reader and the oracle's were written apart; they must break off alike."""
+
+    def test_stored_jobs_break_off_as_the_oracle_says(self):
+        seen = 0
+        for data, lines in stored_jobs():
+            words = lines.split()
+            wanted = None
+            if words[0] == "refused" and int(words[1]) > 10:
+                wanted = int(words[1]), int(words[2])
+            self.assertEqual(refusal(data), wanted, data[:200].hex())
+            self.assertEqual(again(data), data)
+            seen += 1
+        self.assertGreaterEqual(seen, 400)
 
 
 class Floats(unittest.TestCase):
