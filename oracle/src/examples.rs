@@ -1,12 +1,12 @@
-//! The worked examples A to K of document 01, on the original and on the model.
+//! The worked examples A to K of document 01, and the job of B2, on the original and on the model.
 
 use crate::call::{
     Candidate, FinderAnswer, FinderCall, Mode, Place, ScriptAnswer, ScriptCall, Stats, SweepAnswer,
     SweepCall,
 };
 use crate::case::{same_sweep, Case};
-use crate::model::needs;
-use crate::{model, original};
+use crate::model::{lines, needs};
+use crate::{job_command, model, original};
 
 /// What an example must answer.
 pub enum Wanted {
@@ -36,7 +36,23 @@ pub fn run() -> bool {
         );
         all_ok &= by_original && by_model;
     }
-    all_ok
+    let b2_job_ok = b2_job_holds();
+    let word = if b2_job_ok { "ok" } else { "FAIL" };
+    println!("B2  {:16} original and model {word}", "167-byte job");
+    all_ok && b2_job_ok
+}
+
+const B2_LINES: &str = "mapped 8 17 2 2
+identity 4059000000000000 4059000000000000
+counts 5 4 5
+";
+
+/// The job of B2 has the stated size and prints the stated lines, with the original and with the model.
+fn b2_job_holds() -> bool {
+    let bytes = include_bytes!("../../examples/b2.job");
+    let by_original = lines::printed(bytes, job_command::original_sweep);
+    let by_model = lines::printed(bytes, model::sweep);
+    bytes.len() == 167 && by_original == B2_LINES && by_model == B2_LINES
 }
 
 fn holds(example: &Example) -> (bool, bool) {
