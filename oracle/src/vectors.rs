@@ -11,7 +11,7 @@ mod words;
 use std::collections::BTreeMap;
 use std::path::Path;
 
-use crate::call::{FinderAnswer, Mode, ScriptAnswer, SweepAnswer};
+use crate::call::{FinderAnswer, Mode, Refusal, ScriptAnswer, SweepAnswer};
 use crate::case::{Case, SMALL_PATIENCE};
 use crate::examples;
 use crate::job_command::lines_of;
@@ -149,8 +149,13 @@ fn assert_agreed(case: &Case) {
     }
 }
 
-fn refused(number: u8) -> String {
-    format!("refused {number}")
+/// A place above 1 tells apart a program that answers 0, or the first pair of neighbours, always.
+fn refused(refusal: &Refusal) -> Vec<String> {
+    let mut kinds = vec![format!("refused {}", refusal.number)];
+    if refusal.place > 1 {
+        kinds.push(format!("refused {} above place 1", refusal.number));
+    }
+    kinds
 }
 
 fn owned(kinds: Vec<&'static str>) -> Vec<String> {
@@ -171,9 +176,9 @@ fn scripts(mut random: Random) -> File {
         let kinds = match &answer {
             ScriptAnswer::Refused(refusal) if refusal.number == 6 => {
                 let why = script_cases::shows_6(&call, refusal.place);
-                vec![refused(6), why.to_string()]
+                [refused(refusal), vec![why.to_string()]].concat()
             }
-            ScriptAnswer::Refused(refusal) => vec![refused(refusal.number)],
+            ScriptAnswer::Refused(refusal) => refused(refusal),
             ScriptAnswer::Done { .. } => owned(script_cases::shows(&call)),
         };
         file.add(words::script(&call, &answer), kinds);
@@ -193,7 +198,7 @@ fn sweeps(mut random: Random, mode: Mode, name: &'static str) -> File {
         assert_agreed(&Case::Sweep(call.clone()));
         let answer = model::sweep(&call);
         let kinds = match &answer {
-            SweepAnswer::Refused(refusal) => vec![refused(refusal.number)],
+            SweepAnswer::Refused(refusal) => refused(refusal),
             _ => owned(sweep_cases::shows(&call, &answer)),
         };
         file.add(words::sweep(&call, &answer), kinds);
@@ -218,7 +223,7 @@ fn finders(mut random: Random, mode: Mode, name: &'static str) -> File {
         assert_agreed(&Case::Finder(call.clone()));
         let answer = model::finder(&call);
         let kinds = match &answer {
-            FinderAnswer::Refused(refusal) => vec![refused(refusal.number)],
+            FinderAnswer::Refused(refusal) => refused(refusal),
             FinderAnswer::Listed { ranges, .. } => owned(finder_cases::shows(&call, ranges)),
         };
         file.add(words::finder(&call, &answer), kinds);
@@ -281,6 +286,9 @@ const SCRIPT_KINDS: &[&str] = &[
     "refused 3",
     "refused 4",
     "refused 5",
+    "refused 4 above place 1",
+    "refused 5 above place 1",
+    "refused 6 above place 1",
     "refused 6 for the query",
     "refused 6 for an index",
     "refused 6 for a kind",
@@ -299,6 +307,8 @@ const SWEEP_KINDS: &[&str] = &[
     "refused 3",
     "refused 4",
     "refused 5",
+    "refused 4 above place 1",
+    "refused 5 above place 1",
     "refused 7",
     "refused 8",
     "early none: no query hash",

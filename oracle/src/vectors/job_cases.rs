@@ -21,8 +21,8 @@ pub struct Input {
 type Fields = Vec<Vec<u8>>;
 
 pub fn cases(random: &mut Random) -> Vec<Input> {
+    let b2 = b2();
     let mut jobs: Vec<Vec<u8>> = worked().iter().map(|job| whole(job).concat()).collect();
-    let b2 = jobs[1].clone();
     jobs.extend((0..160).map(|_| drawn(random).concat()));
     let refused = spoilt(random, small_job, JOB_FAULTS, 6);
     jobs.extend(refused.iter().map(|job| whole(job).concat()));
@@ -112,6 +112,11 @@ fn worked() -> Vec<Job> {
             _ => None,
         });
     sweeps.collect()
+}
+
+/// The job of B2 that the paper gives the lines of.
+pub fn b2() -> Vec<u8> {
+    whole(&worked()[1]).concat()
 }
 
 fn job_of(call: &SweepCall) -> Job {
