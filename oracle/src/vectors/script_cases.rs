@@ -130,6 +130,27 @@ fn unknown_kind(call: &mut ScriptCall, random: &mut Random) {
     }
 }
 
+/// What must be among the records.
+pub const KINDS: &[&str] = &[
+    "refused 1",
+    "refused 3",
+    "refused 4",
+    "refused 5",
+    "refused 4 above place 1",
+    "refused 5 above place 1",
+    "refused 6 above place 1",
+    "refused 6 for the query",
+    "refused 6 for an index",
+    "refused 6 for a kind",
+    "refused 8",
+    "done",
+    "no steps",
+    "delete at count 0",
+    "upper-half hashes",
+    "two bit words",
+    "two summary words",
+];
+
 /// What an accepted script shows, for the census.
 pub fn shows(call: &ScriptCall) -> Vec<&'static str> {
     let upper_half = |&hash: &u64| hash >> 63 == 1;
