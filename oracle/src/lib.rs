@@ -38,6 +38,7 @@ mod mapper_with_pivot;
 pub mod call;
 pub mod case;
 pub mod diff;
+pub mod differences;
 pub mod examples;
 pub mod exhaust;
 pub mod generate;

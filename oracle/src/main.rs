@@ -8,6 +8,7 @@ use oracle::generate::Size;
 const USAGE: &str = "usage: oracle examples
        oracle diff SEED COUNT [small|medium|limit]
        oracle exhaust
+       oracle differences
        oracle job < FILE
        oracle jobs SEED COUNT
        oracle vectors FOLDER
@@ -33,6 +34,7 @@ fn run(arguments: &[&str]) -> Option<bool> {
         ["diff", seed, count] => diff(seed, count, None),
         ["diff", seed, count, size] => diff(seed, count, Some(size)),
         ["exhaust"] => Some(oracle::exhaust::run()),
+        ["differences"] => Some(oracle::differences::run()),
         ["job"] => Some(oracle::job_command::job()),
         ["jobs", seed, count] => jobs(seed, count),
         ["vectors", "--check", folder] => Some(oracle::vectors::check(Path::new(folder))),
