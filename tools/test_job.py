@@ -112,7 +112,7 @@ def stored_jobs():
 
 
 class Stored(unittest.TestCase):
-    """This reader and the oracle's were written apart; they must break off alike."""
+    """This reader and the oracle's must break off alike."""
 
     def test_stored_jobs_break_off_as_the_oracle_says(self):
         seen = 0

@@ -6,6 +6,7 @@ use crate::call::{
 };
 use crate::case::{same_sweep, Case};
 use crate::model::{lines, needs};
+use crate::vectors::job_cases;
 use crate::{job_command, model, original};
 
 /// What an example must answer.
@@ -25,21 +26,19 @@ pub struct Example {
 pub fn run() -> bool {
     let mut all_ok = true;
     for example in all() {
-        let (by_original, by_model) = holds(&example);
-        let word = |ok: bool| if ok { "ok" } else { "FAIL" };
-        println!(
-            "{:3} {:16} original {:4} model {}",
-            example.name,
-            example.case.call_name(),
-            word(by_original),
-            word(by_model)
-        );
-        all_ok &= by_original && by_model;
+        all_ok &= report(example.name, example.case.call_name(), holds(&example));
     }
-    let b2_job_ok = b2_job_holds();
-    let word = if b2_job_ok { "ok" } else { "FAIL" };
-    println!("B2  {:16} original and model {word}", "167-byte job");
-    all_ok && b2_job_ok
+    all_ok & report("B2", "job", b2_job_holds())
+}
+
+fn report(name: &str, what: &str, (by_original, by_model): (bool, bool)) -> bool {
+    let word = |ok: bool| if ok { "ok" } else { "FAIL" };
+    println!(
+        "{name:3} {what:16} original {:4} model {}",
+        word(by_original),
+        word(by_model)
+    );
+    by_original && by_model
 }
 
 const B2_LINES: &str = "mapped 8 17 2 2
@@ -47,12 +46,16 @@ identity 4059000000000000 4059000000000000
 counts 5 4 5
 ";
 
-/// The job of B2 has the stated size and prints the stated lines, with the original and with the model.
-fn b2_job_holds() -> bool {
-    let bytes = include_bytes!("../../examples/b2.job");
-    let by_original = lines::printed(bytes, job_command::original_sweep);
-    let by_model = lines::printed(bytes, model::sweep);
-    bytes.len() == 167 && by_original == B2_LINES && by_model == B2_LINES
+/// The 167-byte job of B2 prints the paper's three lines.
+fn b2_job_holds() -> (bool, bool) {
+    let bytes = job_cases::b2();
+    let by_original = lines::printed(&bytes, job_command::original_sweep);
+    let by_model = lines::printed(&bytes, model::sweep);
+    let sized = bytes.len() == 167;
+    (
+        sized && by_original == B2_LINES,
+        sized && by_model == B2_LINES,
+    )
 }
 
 fn holds(example: &Example) -> (bool, bool) {

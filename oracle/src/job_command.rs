@@ -56,11 +56,7 @@ pub fn compare(seed: u64, count: u64) -> bool {
 }
 
 fn answer_word(input: &Input, lines: &str) -> String {
-    let words: Vec<&str> = lines.split_whitespace().collect();
-    let answer = match words[0] {
-        "refused" => format!("refused {}", words[1]),
-        other => other.to_string(),
-    };
+    let answer = job_cases::answer_of(lines);
     match input.failed {
         true => format!("failed read, {answer}"),
         false => answer,

@@ -4,6 +4,7 @@
 mod draw;
 mod finder_cases;
 pub mod job_cases;
+mod job_fields;
 mod script_cases;
 mod sweep_cases;
 mod words;
@@ -11,13 +12,12 @@ mod words;
 use std::collections::BTreeMap;
 use std::path::Path;
 
-use crate::call::{FinderAnswer, Mode, ScriptAnswer, SweepAnswer};
+use crate::call::{FinderAnswer, Mode, Refusal, ScriptAnswer, SweepAnswer};
 use crate::case::{Case, SMALL_PATIENCE};
 use crate::examples;
 use crate::job_command::lines_of;
 use crate::model;
 use crate::random::Random;
-use job_cases::Input;
 
 /// Each file draws from this seed plus its number, so that one can change without the others.
 pub const SEED: u64 = 286_433_000;
@@ -149,217 +149,89 @@ fn assert_agreed(case: &Case) {
     }
 }
 
-fn refused(number: u8) -> String {
-    format!("refused {number}")
+/// A place above 1 tells apart a program that answers 0, or the first pair of neighbours, always.
+fn refused(refusal: &Refusal) -> Vec<String> {
+    let mut kinds = vec![format!("refused {}", refusal.number)];
+    if refusal.place > 1 {
+        kinds.push(format!("refused {} above place 1", refusal.number));
+    }
+    kinds
 }
 
 fn owned(kinds: Vec<&'static str>) -> Vec<String> {
     kinds.into_iter().map(str::to_string).collect()
 }
 
+/// Those of the paper's worked examples that are of one sort.
+fn worked<C>(sort: impl Fn(Case) -> Option<C>) -> impl Iterator<Item = C> {
+    let cases = examples::all().into_iter().map(|example| example.case);
+    cases.filter_map(sort)
+}
+
 fn scripts(mut random: Random) -> File {
     let mut file = File::begin("script.bin");
-    let worked = examples::all()
-        .into_iter()
-        .filter_map(|example| match example.case {
-            Case::Script(call) => Some(call),
-            _ => None,
-        });
+    let worked = worked(|case| match case {
+        Case::Script(call) => Some(call),
+        _ => None,
+    });
     for call in worked.chain(script_cases::cases(&mut random)) {
         assert_agreed(&Case::Script(call.clone()));
         let answer = model::script(&call);
         let kinds = match &answer {
             ScriptAnswer::Refused(refusal) if refusal.number == 6 => {
                 let why = script_cases::shows_6(&call, refusal.place);
-                vec![refused(6), why.to_string()]
+                [refused(refusal), vec![why.to_string()]].concat()
             }
-            ScriptAnswer::Refused(refusal) => vec![refused(refusal.number)],
+            ScriptAnswer::Refused(refusal) => refused(refusal),
             ScriptAnswer::Done { .. } => owned(script_cases::shows(&call)),
         };
         file.add(words::script(&call, &answer), kinds);
     }
-    file.finish(SCRIPT_KINDS, MOST_WORDS)
+    file.finish(script_cases::KINDS, MOST_WORDS)
 }
 
 fn sweeps(mut random: Random, mode: Mode, name: &'static str) -> File {
     let mut file = File::begin(name);
-    let worked = examples::all()
-        .into_iter()
-        .filter_map(|example| match example.case {
-            Case::Sweep(call) if call.mode == mode => Some(call),
-            _ => None,
-        });
+    let worked = worked(|case| match case {
+        Case::Sweep(call) if call.mode == mode => Some(call),
+        _ => None,
+    });
     for call in worked.chain(sweep_cases::cases(&mut random, mode)) {
         assert_agreed(&Case::Sweep(call.clone()));
         let answer = model::sweep(&call);
         let kinds = match &answer {
-            SweepAnswer::Refused(refusal) => vec![refused(refusal.number)],
+            SweepAnswer::Refused(refusal) => refused(refusal),
             _ => owned(sweep_cases::shows(&call, &answer)),
         };
         file.add(words::sweep(&call, &answer), kinds);
     }
-    let wanted = match mode {
-        Mode::Minimizer => MINIMIZER_KINDS,
-        Mode::Interval => INTERVAL_KINDS,
-    };
-    file.finish(SWEEP_KINDS, MOST_WORDS)
-        .finish(wanted, MOST_WORDS)
+    file.finish(&sweep_cases::kinds(mode), MOST_WORDS)
 }
 
 fn finders(mut random: Random, mode: Mode, name: &'static str) -> File {
     let mut file = File::begin(name);
-    let worked = examples::all()
-        .into_iter()
-        .filter_map(|example| match example.case {
-            Case::Finder(call) if call.mode == mode => Some(call),
-            _ => None,
-        });
+    let worked = worked(|case| match case {
+        Case::Finder(call) if call.mode == mode => Some(call),
+        _ => None,
+    });
     for call in worked.chain(finder_cases::cases(&mut random, mode)) {
         assert_agreed(&Case::Finder(call.clone()));
         let answer = model::finder(&call);
         let kinds = match &answer {
-            FinderAnswer::Refused(refusal) => vec![refused(refusal.number)],
+            FinderAnswer::Refused(refusal) => refused(refusal),
             FinderAnswer::Listed { ranges, .. } => owned(finder_cases::shows(&call, ranges)),
         };
         file.add(words::finder(&call, &answer), kinds);
     }
-    let wanted = match mode {
-        Mode::Minimizer => MINIMIZER_FINDER_KINDS,
-        Mode::Interval => INTERVAL_FINDER_KINDS,
-    };
-    file.finish(FINDER_KINDS, MOST_WORDS)
-        .finish(wanted, MOST_WORDS)
+    file.finish(&finder_cases::kinds(mode), MOST_WORDS)
 }
 
 fn jobs(mut random: Random) -> File {
     let mut file = File::begin("jobs.bin");
     for input in job_cases::cases(&mut random) {
         let lines = lines_of(&input);
-        let kinds = job_kinds(&input, &lines);
+        let kinds = job_cases::shows(&input, &lines);
         file.add(words::job(&input.bytes, input.failed, &lines), kinds);
     }
-    file.finish(JOB_KINDS, MOST_JOB_WORDS)
+    file.finish(job_cases::KINDS, MOST_JOB_WORDS)
 }
-
-fn job_kinds(input: &Input, lines: &str) -> Vec<String> {
-    let mut words = lines.split_whitespace();
-    let first = words.next().unwrap_or_default();
-    let answer = match first {
-        "refused" => format!("refused {}", words.next().unwrap_or_default()),
-        other => other.to_string(),
-    };
-    let mut kinds = Vec::new();
-    if input.failed {
-        kinds.push(match model::job::read(&input.bytes) {
-            Ok(_) => "failed read after a whole job".to_string(),
-            Err(refusal) => format!("failed read, refused {}", refusal.number),
-        });
-        return kinds;
-    }
-    if first == "mapped" && has_payload(lines) {
-        kinds.push("mapped, NaN with a payload".to_string());
-    }
-    if let Ok(job) = model::job::read(&input.bytes) {
-        kinds.push(format!("whole job, {:?}", job.mode));
-    }
-    kinds.push(answer);
-    kinds
-}
-
-/// Whether the identity line has a NaN other than the one the language keeps.
-fn has_payload(lines: &str) -> bool {
-    let identity = lines.lines().nth(1).unwrap_or_default();
-    let numbers = identity
-        .split(' ')
-        .filter_map(|word| u64::from_str_radix(word, 16).ok());
-    let mut floats = numbers.map(f64::from_bits);
-    floats.any(|float| float.is_nan() && float.to_bits() != f64::NAN.to_bits())
-}
-
-const SCRIPT_KINDS: &[&str] = &[
-    "refused 1",
-    "refused 3",
-    "refused 4",
-    "refused 5",
-    "refused 6 for the query",
-    "refused 6 for an index",
-    "refused 6 for a kind",
-    "refused 8",
-    "done",
-    "no steps",
-    "delete at count 0",
-    "upper-half hashes",
-    "two bit words",
-    "two summary words",
-];
-
-const SWEEP_KINDS: &[&str] = &[
-    "refused 1",
-    "refused 2",
-    "refused 3",
-    "refused 4",
-    "refused 5",
-    "refused 7",
-    "refused 8",
-    "early none: no query hash",
-    "early none: too short",
-    "early none: no item taken",
-    "none: below the minimum",
-    "placed",
-    "placed: tie",
-    "placed: identity NaN",
-    "placed: upper bound NaN under a minimum",
-    "placed: minimum NaN",
-    "placed: infinite estimate",
-    "placed: end past 2^32",
-    "upper-half hashes",
-    "inside demand 3",
-    "outside demand 3",
-];
-
-const MINIMIZER_KINDS: &[&str] = &["none: no window scored", "none: nothing shared"];
-
-const INTERVAL_KINDS: &[&str] = &[
-    "early none: reversed range",
-    "placed: zero wins",
-    "2^32 windows",
-];
-
-const FINDER_KINDS: &[&str] = &[
-    "refused 1",
-    "refused 2",
-    "refused 3",
-    "refused 8",
-    "none listed",
-    "one listed",
-    "several listed",
-    "several contigs listed",
-    "a group dropped",
-    "upper-half positions",
-];
-
-const MINIMIZER_FINDER_KINDS: &[&str] = &["touching ranges apart"];
-
-const INTERVAL_FINDER_KINDS: &[&str] = &["an interval passed over"];
-
-const JOB_KINDS: &[&str] = &[
-    "refused 2",
-    "refused 4",
-    "refused 5",
-    "refused 7",
-    "refused 11",
-    "refused 12",
-    "refused 13",
-    "refused 14",
-    "refused 15",
-    "refused 16",
-    "refused 17",
-    "mapped",
-    "mapped, NaN with a payload",
-    "none",
-    "whole job, Minimizer",
-    "whole job, Interval",
-    "failed read after a whole job",
-    "failed read, refused 12",
-    "failed read, refused 14",
-];

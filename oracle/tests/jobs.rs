@@ -6,7 +6,8 @@ use std::path::{Path, PathBuf};
 use oracle::job_command::lines_of;
 use oracle::model::job::{read, FileRefusal};
 use oracle::model::lines::printed_after_failure;
-use oracle::vectors::{self, job_cases::Input};
+use oracle::vectors;
+use oracle::vectors::job_cases::{self, Input};
 
 fn repository() -> PathBuf {
     Path::new(env!("CARGO_MANIFEST_DIR")).join("..")
@@ -36,6 +37,11 @@ fn every_example_prints_what_stands_beside_it() {
         }
     }
     assert!(seen >= 40, "{seen} jobs");
+}
+
+#[test]
+fn b2_is_the_example_file() {
+    assert_eq!(job_cases::b2(), example("b2.job"));
 }
 
 /// Where the fields of B2's job begin.

@@ -155,6 +155,32 @@ const INTERVAL_FAULTS: &[Fault<FinderCall>] = &[
     |call, _| call.room.end_keys = too_few(call),
 ];
 
+/// What must be among the records.
+pub fn kinds(mode: Mode) -> Vec<&'static str> {
+    let own = match mode {
+        Mode::Minimizer => MINIMIZER_KINDS,
+        Mode::Interval => INTERVAL_KINDS,
+    };
+    [KINDS, own].concat()
+}
+
+const KINDS: &[&str] = &[
+    "refused 1",
+    "refused 2",
+    "refused 3",
+    "refused 8",
+    "none listed",
+    "one listed",
+    "several listed",
+    "several contigs listed",
+    "a group dropped",
+    "upper-half positions",
+];
+
+const MINIMIZER_KINDS: &[&str] = &["touching ranges apart"];
+
+const INTERVAL_KINDS: &[&str] = &["an interval passed over"];
+
 /// What an accepted finder and its ranges show, for the census.
 pub fn shows(call: &FinderCall, ranges: &[Candidate]) -> Vec<&'static str> {
     let dropped = |&length: &u32| length > 0 && u64::from(length) >= call.threshold;

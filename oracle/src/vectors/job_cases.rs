@@ -2,13 +2,12 @@
 //! that fail.
 
 use super::draw::{index, repeat_neighbour, spoilt, swap_neighbours, Fault};
+use super::job_fields::{field, in_pieces, whole, Fields};
 use super::sweep_cases;
 use crate::call::{Mode, SweepCall};
 use crate::case::Case;
 use crate::examples;
-use crate::model::job::{
-    Item, Job, Pair, END, ESTIMATES, ITEMS, JOB_LIMIT, MINIMUM, MODE, QUERY, SETTINGS, VERSION,
-};
+use crate::model::job::{self, Item, Job, Pair, END, ITEMS, JOB_LIMIT, MODE, VERSION};
 use crate::random::Random;
 
 /// The bytes that were read, and whether reading then failed instead of coming to the end.
@@ -17,12 +16,9 @@ pub struct Input {
     pub failed: bool,
 }
 
-/// The fields of a job, each with its tag and length.
-type Fields = Vec<Vec<u8>>;
-
 pub fn cases(random: &mut Random) -> Vec<Input> {
+    let b2 = b2();
     let mut jobs: Vec<Vec<u8>> = worked().iter().map(|job| whole(job).concat()).collect();
-    let b2 = jobs[1].clone();
     jobs.extend((0..160).map(|_| drawn(random).concat()));
     let refused = spoilt(random, small_job, JOB_FAULTS, 6);
     jobs.extend(refused.iter().map(|job| whole(job).concat()));
@@ -114,6 +110,11 @@ fn worked() -> Vec<Job> {
     sweeps.collect()
 }
 
+/// The job of B2 that the paper gives the lines of.
+pub fn b2() -> Vec<u8> {
+    whole(&worked()[1]).concat()
+}
+
 fn job_of(call: &SweepCall) -> Job {
     let end = |i: usize| call.ends.get(i).copied().unwrap_or(0);
     let items = call.hashes.iter().zip(&call.starts).enumerate();
@@ -170,95 +171,6 @@ fn medium(random: &mut Random) -> Fields {
     let mode = random.pick(&[Mode::Minimizer, Mode::Interval]);
     let job = job_of(&sweep_cases::medium(random, mode));
     in_pieces(random, &job)
-}
-
-fn field(tag: u8, data: &[u8]) -> Vec<u8> {
-    let length = u16::try_from(data.len()).expect("a field holds at most 65,535 bytes");
-    [&[tag], &length.to_le_bytes()[..], data].concat()
-}
-
-/// Everything before the items; 04 stands unless it says 0.0.
-fn front(job: &Job) -> Fields {
-    let Job {
-        kmer,
-        window,
-        length,
-        range_start,
-        range_end,
-        ..
-    } = *job;
-    let settings = [kmer, window, length, range_start, range_end];
-    let query: Vec<u8> = job
-        .query
-        .iter()
-        .flat_map(|hash| hash.to_le_bytes())
-        .collect();
-    let mut fields = vec![
-        field(VERSION, &[1]),
-        field(MODE, &[u8::from(job.mode == Mode::Interval)]),
-        field(SETTINGS, &settings.map(u32::to_le_bytes).concat()),
-    ];
-    if job.minimum_bits != 0 {
-        fields.push(field(MINIMUM, &job.minimum_bits.to_le_bytes()));
-    }
-    fields.push(field(QUERY, &query));
-    fields
-}
-
-fn items_field(mode: Mode, items: &[Item]) -> Vec<u8> {
-    let unit = |item: &Item| {
-        let mut unit = item.hash.to_le_bytes().to_vec();
-        unit.extend(item.start.to_le_bytes());
-        if mode == Mode::Interval {
-            unit.extend(item.end.to_le_bytes());
-        }
-        unit
-    };
-    field(ITEMS, &items.iter().flat_map(unit).collect::<Vec<_>>())
-}
-
-fn estimates_field(estimates: &[Pair]) -> Vec<u8> {
-    let words = estimates
-        .iter()
-        .flat_map(|pair| [pair.identity_bits, pair.upper_bits]);
-    field(
-        ESTIMATES,
-        &words.flat_map(u64::to_le_bytes).collect::<Vec<_>>(),
-    )
-}
-
-/// One field of each kind.
-fn whole(job: &Job) -> Fields {
-    let mut fields = front(job);
-    fields.push(items_field(job.mode, &job.items));
-    fields.push(estimates_field(&job.estimates));
-    fields.push(field(END, &[]));
-    fields
-}
-
-/// Items and estimates in one field or in several, which may be empty.
-fn in_pieces(random: &mut Random, job: &Job) -> Fields {
-    let mut fields = front(job);
-    for piece in pieces(random, &job.items) {
-        fields.push(items_field(job.mode, piece));
-    }
-    for piece in pieces(random, &job.estimates) {
-        fields.push(estimates_field(piece));
-    }
-    fields.push(field(END, &[]));
-    fields
-}
-
-fn pieces<'a, T>(random: &mut Random, list: &'a [T]) -> Vec<&'a [T]> {
-    let mut pieces = Vec::new();
-    let mut rest = list;
-    while random.once_in(2) {
-        let (piece, after) = rest.split_at(index(random, rest.len() + 1));
-        pieces.push(piece);
-        rest = after;
-    }
-    pieces.push(rest);
-    pieces
 }
 
 /// What the file can say and the library refuses: 2, 4, 5, 7.
@@ -366,4 +278,65 @@ fn filled(job: &Job) -> Vec<u8> {
         "fields of three bytes fill the job up"
     );
     bytes
+}
+
+/// What must be among the records.
+pub const KINDS: &[&str] = &[
+    "refused 2",
+    "refused 4",
+    "refused 5",
+    "refused 7",
+    "refused 11",
+    "refused 12",
+    "refused 13",
+    "refused 14",
+    "refused 15",
+    "refused 16",
+    "refused 17",
+    "mapped",
+    "mapped, NaN with a payload",
+    "none",
+    "whole job, Minimizer",
+    "whole job, Interval",
+    "failed read after a whole job",
+    "failed read, refused 12",
+    "failed read, refused 14",
+];
+
+/// What an input and its lines show, for the census.
+pub fn shows(input: &Input, lines: &str) -> Vec<String> {
+    let read = job::read(&input.bytes);
+    if input.failed {
+        return vec![match read {
+            Ok(_) => "failed read after a whole job".to_string(),
+            Err(refusal) => format!("failed read, refused {}", refusal.number),
+        }];
+    }
+    let mut kinds = vec![answer_of(lines)];
+    if has_payload(lines) {
+        kinds.push("mapped, NaN with a payload".to_string());
+    }
+    if let Ok(job) = read {
+        kinds.push(format!("whole job, {:?}", job.mode));
+    }
+    kinds
+}
+
+/// The answer's first word, with the number of a refusal.
+pub fn answer_of(lines: &str) -> String {
+    let words: Vec<&str> = lines.split_whitespace().collect();
+    match words[0] {
+        "refused" => format!("refused {}", words[1]),
+        other => other.to_string(),
+    }
+}
+
+/// Whether the identity line has a NaN other than the one the language keeps.
+fn has_payload(lines: &str) -> bool {
+    let identity = lines.lines().nth(1).unwrap_or_default();
+    let numbers = identity
+        .split(' ')
+        .filter_map(|word| u64::from_str_radix(word, 16).ok());
+    let mut floats = numbers.map(f64::from_bits);
+    floats.any(|float| float.is_nan() && float.to_bits() != f64::NAN.to_bits())
 }

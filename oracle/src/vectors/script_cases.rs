@@ -17,6 +17,7 @@ pub fn cases(random: &mut Random) -> Vec<ScriptCall> {
     cases.extend(spoilt(random, rich, FAULTS, 6));
     cases.extend((0..5).map(|_| drawn(random, 400, 600)));
     cases.push(drawn(random, 4_200, 500));
+    cases.extend([sparse(random, 400), sparse(random, 4_200)]);
     cases
 }
 
@@ -89,6 +90,27 @@ fn drawn(random: &mut Random, count: usize, steps: usize) -> ScriptCall {
     call
 }
 
+/// Two query hashes far apart and few others active: the pivot's next place lies many empty words away.
+fn sparse(random: &mut Random, count: u32) -> ScriptCall {
+    let coords: Vec<u64> = (0..u64::from(count)).collect();
+    let ends = [10, u64::from(count) - 10];
+    let used = [
+        0,
+        5,
+        63,
+        64,
+        200,
+        count / 2,
+        count - 105,
+        count - 104,
+        count - 1,
+    ];
+    let steps: Vec<(u32, u8)> = (0..80)
+        .map(|_| (random.pick(&used), random.below(2) as u8))
+        .collect();
+    script(&ends, &coords, &steps)
+}
+
 const FAULTS: &[Fault<ScriptCall>] = &[
     |call, _| call.coords.clear(),
     |call, _| call.kinds.push(0),
@@ -129,6 +151,27 @@ fn unknown_kind(call: &mut ScriptCall, random: &mut Random) {
         call.kinds[at] = random.pick(&[2, 255]);
     }
 }
+
+/// What must be among the records.
+pub const KINDS: &[&str] = &[
+    "refused 1",
+    "refused 3",
+    "refused 4",
+    "refused 5",
+    "refused 4 above place 1",
+    "refused 5 above place 1",
+    "refused 6 above place 1",
+    "refused 6 for the query",
+    "refused 6 for an index",
+    "refused 6 for a kind",
+    "refused 8",
+    "done",
+    "no steps",
+    "delete at count 0",
+    "upper-half hashes",
+    "two bit words",
+    "two summary words",
+];
 
 /// What an accepted script shows, for the census.
 pub fn shows(call: &ScriptCall) -> Vec<&'static str> {

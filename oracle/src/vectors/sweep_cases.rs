@@ -273,6 +273,49 @@ const INTERVAL_FAULTS: &[Fault<SweepCall>] = &[
     |call, _| call.room.events = (2 * call.hashes.len()).saturating_sub(1),
 ];
 
+/// What must be among the records.
+pub fn kinds(mode: Mode) -> Vec<&'static str> {
+    let own = match mode {
+        Mode::Minimizer => MINIMIZER_KINDS,
+        Mode::Interval => INTERVAL_KINDS,
+    };
+    [KINDS, own].concat()
+}
+
+const KINDS: &[&str] = &[
+    "refused 1",
+    "refused 2",
+    "refused 3",
+    "refused 4",
+    "refused 5",
+    "refused 4 above place 1",
+    "refused 5 above place 1",
+    "refused 7",
+    "refused 8",
+    "early none: no query hash",
+    "early none: too short",
+    "early none: no item taken",
+    "none: below the minimum",
+    "placed",
+    "placed: tie",
+    "placed: identity NaN",
+    "placed: upper bound NaN under a minimum",
+    "placed: minimum NaN",
+    "placed: infinite estimate",
+    "placed: end past 2^32",
+    "upper-half hashes",
+    "inside demand 3",
+    "outside demand 3",
+];
+
+const MINIMIZER_KINDS: &[&str] = &["none: no window scored", "none: nothing shared"];
+
+const INTERVAL_KINDS: &[&str] = &[
+    "early none: reversed range",
+    "placed: zero wins",
+    "2^32 windows",
+];
+
 /// What an accepted sweep and its answer show, for the census.
 pub fn shows(call: &SweepCall, answer: &SweepAnswer) -> Vec<&'static str> {
     let (best, stats) = model::by_steps(call);
