@@ -1,7 +1,7 @@
 -- The bits of one number: under or, and, not and the shifts, the highest and the lowest set bit, and that a number is its bits.
 -- Each goes by halving: bit k + 1 of x is bit k of x / 2.
 use mathlib.Core.Path.{_≡_, refl, sym, ap, ap₂, _∙_, subst}
-use mathlib.Core.Logic.{_⊎_, inl, inr, ⊎-elim, _≢_}
+use mathlib.Core.Logic.{_⊎_, ⊎-elim, _≢_}
 use Prim.Native.Nat.{ℕ, zero, suc, _+_, _-_, _*_, _/_, _%_, _^_, _≤_, _<_, min, max}
 use native.Mathlib.Nat.{mod-lt, zero-div, div-one, div-self, div-eq-of-lt, div-eq-of-lt-le, lt-of-lt-of-le, zero-max, zero-min, pow-suc, div-div-eq-div-mul, mul-comm, mul-one, one-mul, div-le-self, suc-add, zero-add, zero-lt-suc}
 use native.Mathlib.Omega.{arith}

@@ -1,6 +1,6 @@
 -- The bits of a list of words: after a bit is set or cleared only that bit differs, and a list of words is its bits. Each holds because
 -- bit i of the list is bit i % 64 of word i / 64, so that the laws of one number carry over.
-use mathlib.Core.Path.{_≡_, refl, sym, ap, ap₂, _∙_}
+use mathlib.Core.Path.{_≡_, sym, ap, ap₂, _∙_}
 use mathlib.Core.Logic.{_⊎_, ⊎-elim, _≢_}
 use mathlib.Core.List.{List}
 use Prim.Native.Nat.{ℕ, _+_, _*_, _/_, _%_, _^_, _≤_, _<_}
@@ -32,6 +32,10 @@ bitAt-zero ws k e = ap (λ (x : ℕ). bit x (k % 64)) e ∙ bit-of-zero (k % 64)
 
 pub past-end : (ws : List ℕ) (k : ℕ) → length ws ≤ k / 64 → bitAt ws k ≡ 0
 past-end ws k h = bitAt-zero ws k (List·getD-eq-default ws 0 h)
+
+pub on-in : (ws : List ℕ) (k : ℕ) → bitAt ws k ≡ 1 → k < length ws * 64
+on-in ws k e =
+    ⊎-elim (λ (l : k < length ws * 64). l) (λ (l : length ws * 64 ≤ k). absurd (omega (arith, past-end ws k (omega arith)))) (lt-or-ge k (length ws * 64))
 
 -- what a store to word w does to bit k, where it keeps bit k of that word
 stored : (ws : List ℕ) (w v k : ℕ) → w < length ws → (k / 64 ≡ w → bit v (k % 64) ≡ bit (getD ws w 0) (k % 64)) → bit (getD (set ws w v) (k / 64) 0) (k % 64) ≡ bit (getD ws (k / 64) 0) (k % 64)

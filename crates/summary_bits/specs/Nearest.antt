@@ -6,10 +6,10 @@ use Rattle.summary_bits.specs.declared.Found.the-variants.{At, Nothing}
 
 -- the greatest number below n that is in f, and Nothing exactly when there is none
 abbrev pub Prev : (ℕ → ℕ) → ℕ → Found → Type 0
-Prev f n (At c) = LastBelow f n (c .0)
+Prev f n (At c) = LastBelow f n c
 Prev f n Nothing = NoneBelow f n
 
 -- the least number from n on that is in f, and Nothing exactly when there is none
 abbrev pub Next : (ℕ → ℕ) → ℕ → Found → Type 0
-Next f n (At c) = FirstFrom f n (c .0)
+Next f n (At c) = FirstFrom f n c
 Next f n Nothing = NoneFrom f n

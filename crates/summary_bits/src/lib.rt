@@ -1,16 +1,18 @@
 // A set of coordinate numbers: bit i of the words is 1 where i is in the set. The summary has a bit for each word, 1 exactly where
 // the word is not 0, so that a search which finds nothing in its own word passes over 64 empty words at a time.
 ghost use mathlib.Core.Path.{_≡_};
-ghost use Prim.Native.Nat.{_*_, _+_, _<_, _≤_};
-ghost use lib.ListN.{length};
+ghost use Prim.Native.Nat.{_*_, _+_, _^_, _<_, _≤_};
+ghost use lib.ListN.{length, getD};
+ghost use Rattle.base.specs.Nearest.{LastBelow, FirstFrom};
 ghost use Rattle.summary_bits.specs.Bits.{bitAt, withOn, withOff};
 ghost use Rattle.summary_bits.specs.Summary.{Fits, Summary, raised, lowered};
 ghost use Rattle.summary_bits.specs.Nearest.{Prev, Next};
 use base::Coord;
 
-// The nearest set bit, where there is one.
+// The number of the nearest set bit, where there is one. It is a usize: an answer of 8 bytes, as with a Coord, is packed into one register
+// by the compiler and taken apart again, about a fifth of a search's time where bits stand close.
 pub enum Found {
-    At(Coord),
+    At(usize),
     Nothing,
 }
 
@@ -44,23 +46,44 @@ pub fn clear(words: &mut [u64], summary: &mut [u64], coord: Coord)
     }
 }
 
-// The nearest set bit before word `w`. The shift drops the summary's bits from the word `end` on, so that the count of leading
-// zeros is the way down from the word before it.
+// The highest set bit of word `j`, which is not 0.
+fn highest_in(words: &[u64], j: usize) -> usize
+    requires { ⌜ (j < length (now words)) × (length (now words) ≤ 2 ^ 26) × (0 < getD (now words) j 0) ⌝ }
+    ensures { λ r. ⌜ LastBelow (bitAt (now (words .entry))) (j * 64 + 64) r ⌝ }
+{
+    j * 64 + 63 - u64::leading_zeros(words[j]) as usize
+}
+
+// The nearest set bit before a block of 64 words: a block has one summary word.
+fn before_block(words: &[u64], summary: &[u64], block: usize) -> Found
+    requires { ⌜ Fits (now words) (now summary) × Summary (now words) (now summary) × (block ≤ length (now summary)) ⌝ }
+    ensures { λ r. ⌜ Prev (bitAt (now (words .entry))) (block * 64 * 64) r ⌝ }
+{
+    let mut end = block;
+    while 0 < end {
+        if summary[end - 1] != 0 {
+            return Found::At(highest_in(words, highest_in(summary, end - 1)));
+        }
+        end -= 1;
+    }
+    Found::Nothing
+}
+
+// The nearest set bit before word `w`. The shift drops the summary bits of `w` and the words after it, so that the count of leading
+// zeros is the way down from the word before `w`.
 fn before_word(words: &[u64], summary: &[u64], w: usize) -> Found
     requires { ⌜ Fits (now words) (now summary) × Summary (now words) (now summary) × (w ≤ length (now words)) ⌝ }
     ensures { λ r. ⌜ Prev (bitAt (now (words .entry))) (w * 64) r ⌝ }
 {
-    let mut end = w;
-    while 0 < end {
-        let last = end - 1;
-        let low = summary[last / 64] << (63 - last % 64);
-        if low != 0 {
-            let j = last - u64::leading_zeros(low) as usize;
-            return Found::At(Coord((j * 64 + 63 - u64::leading_zeros(words[j]) as usize) as u32));
-        }
-        end = last / 64 * 64;
+    if w == 0 {
+        return Found::Nothing;
     }
-    Found::Nothing
+    let last = w - 1;
+    let low = summary[last / 64] << (63 - last % 64);
+    if low != 0 {
+        return Found::At(highest_in(words, last - u64::leading_zeros(low) as usize));
+    }
+    before_block(words, summary, last / 64)
 }
 
 // The nearest set bit strictly before the coordinate.
@@ -75,26 +98,47 @@ pub fn prev_set_before(words: &[u64], summary: &[u64], coord: Coord) -> Found
     let last = index - 1;
     let low = words[last / 64] << (63 - last % 64);
     if low != 0 {
-        return Found::At(Coord((last - u64::leading_zeros(low) as usize) as u32));
+        return Found::At(last - u64::leading_zeros(low) as usize);
     }
     before_word(words, summary, last / 64)
 }
 
-// The nearest set bit from word `w` on.
+// The lowest set bit of word `j`, which is not 0.
+fn lowest_in(words: &[u64], j: usize) -> usize
+    requires { ⌜ (j < length (now words)) × (length (now words) ≤ 2 ^ 26) × (0 < getD (now words) j 0) ⌝ }
+    ensures { λ r. ⌜ FirstFrom (bitAt (now (words .entry))) (j * 64) r ⌝ }
+{
+    j * 64 + u64::trailing_zeros(words[j]) as usize
+}
+
+// The nearest set bit from a block of 64 words on.
+fn from_block(words: &[u64], summary: &[u64], block: usize) -> Found
+    requires { ⌜ Fits (now words) (now summary) × Summary (now words) (now summary) ⌝ }
+    ensures { λ r. ⌜ Next (bitAt (now (words .entry))) (block * 64 * 64) r ⌝ }
+{
+    let mut at = block;
+    while at < summary.len() {
+        if summary[at] != 0 {
+            return Found::At(lowest_in(words, lowest_in(summary, at)));
+        }
+        at += 1;
+    }
+    Found::Nothing
+}
+
+// The nearest set bit from word `w` on. The shift drops the summary bits of the words before `w`.
 fn from_word(words: &[u64], summary: &[u64], w: usize) -> Found
     requires { ⌜ Fits (now words) (now summary) × Summary (now words) (now summary) ⌝ }
     ensures { λ r. ⌜ Next (bitAt (now (words .entry))) (w * 64) r ⌝ }
 {
-    let mut at = w;
-    while at < words.len() {
-        let high = summary[at / 64] >> (at % 64);
-        if high != 0 {
-            let j = at + u64::trailing_zeros(high) as usize;
-            return Found::At(Coord((j * 64 + u64::trailing_zeros(words[j]) as usize) as u32));
-        }
-        at = at / 64 * 64 + 64;
+    if words.len() <= w {
+        return Found::Nothing;
     }
-    Found::Nothing
+    let high = summary[w / 64] >> (w % 64);
+    if high != 0 {
+        return Found::At(lowest_in(words, w + u64::trailing_zeros(high) as usize));
+    }
+    from_block(words, summary, w / 64 + 1)
 }
 
 // The nearest set bit strictly after the coordinate.
@@ -109,7 +153,7 @@ pub fn next_set_after(words: &[u64], summary: &[u64], coord: Coord) -> Found
     }
     let high = words[w] >> (first % 64);
     if high != 0 {
-        return Found::At(Coord((first + u64::trailing_zeros(high) as usize) as u32));
+        return Found::At(first + u64::trailing_zeros(high) as usize);
     }
     from_word(words, summary, w + 1)
 }

@@ -53,9 +53,6 @@ cast-t14 c = omega (arith, near c)
 add-t15 : tie.Need-add-t15
 add-t15 c = omega (arith, near c)
 
-cast-t16 : tie.Need-cast-t16
-cast-t16 c = omega (arith, near c)
-
 returns-2 : tie.Need-returns-2
 returns-2 c = from-at (ws (c .before)) (i (c .before)) (small (c .before)) (c .if2 .taken)
 
@@ -82,7 +79,6 @@ next-set-after-spec =
     shr-high
     cast-t14
     add-t15
-    cast-t16
     returns-2
     add-from-word
     from-word-requires

@@ -1,7 +1,7 @@
 -- `prev_set_before` answers the nearest set bit before the coordinate: the shifted word has it, or it has no bit up to there and the words before it
 -- are asked.
 use mathlib.Core.List.{List}
-use Prim.Native.Nat.{ℕ, _+_, _-_, _*_, _/_, _%_, _^_}
+use Prim.Native.Nat.{ℕ, _-_, _*_, _/_, _%_, _^_}
 use native.Mathlib.Omega.{arith}
 use denote.Ref.{now}
 use lib.Count.{leading-le}
@@ -49,9 +49,6 @@ cast-t16 c = omega (arith, leading-le 64 (getD (ws (c .before)) ((i (c .before) 
 sub-t17 : tie.Need-sub-t17
 sub-t17 c = omega (arith, upto-near (ws (c .before)) (i (c .before) - 1) (i (c .before)) (omega arith) (c .if2 .taken))
 
-cast-t18 : tie.Need-cast-t18
-cast-t18 c = search needs
-
 returns-2 : tie.Need-returns-2
 returns-2 c = upto-at (ws (c .before)) (i (c .before) - 1) (i (c .before)) (omega arith) (c .if2 .taken)
 
@@ -76,7 +73,6 @@ prev-set-before-spec =
     shl-low
     cast-t16
     sub-t17
-    cast-t18
     returns-2
     before-word-requires
     returns-3)

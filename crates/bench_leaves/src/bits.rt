@@ -1,0 +1,126 @@
+// Lists of operations on a set of bits, a list to a call: a crossing of the C border for each operation would be most of its time.
+// Nothing can be required of C, so each function looks at its arguments and answers how many operations it has run.
+ghost use mathlib.Core.Path.{_≡_};
+ghost use mathlib.Core.Bool.{false};
+ghost use Prim.Native.Nat.{_≤_, min};
+ghost use lib.ListN.{length, getD};
+ghost use Rattle.summary_bits.specs.Summary.{Fits, Summary};
+use base::Coord;
+use summary_bits::Found;
+
+// Whether the sizes do not fit each other.
+fn misfit(words: &[u64], summary: &[u64]) -> bool
+    ensures { λ r. ⌜ (r ≡ false → Fits (now (words .entry)) (now (summary .entry)) × (length (now (summary .entry)) ≤ 1024)) ⌝ }
+{
+    if 1024 < words.len() {
+        return true;
+    }
+    if 1024 < summary.len() {
+        return true;
+    }
+    summary.len() * 64 < words.len()
+}
+
+// 1 where word j is not 0, else 0; past the end it is 0.
+fn used(words: &[u64], j: usize) -> u64
+    ensures { λ r. ⌜ r ≡ min (getD (now (words .entry)) j 0) 1 ⌝ }
+{
+    if words.len() <= j {
+        return 0;
+    }
+    if words[j] == 0 {
+        return 0;
+    }
+    1
+}
+
+// Whether the summary does not go with the words.
+fn astray(words: &[u64], summary: &[u64]) -> bool
+    ensures { λ r. ⌜ (r ≡ false → Fits (now (words .entry)) (now (summary .entry)) × Summary (now (words .entry)) (now (summary .entry))) ⌝ }
+{
+    if misfit(words, summary) {
+        return true;
+    }
+    let mut j = 0;
+    while j < summary.len() * 64 {
+        if (summary[j / 64] >> (j % 64)) % 2 != used(words, j) {
+            return true;
+        }
+        j += 1;
+    }
+    false
+}
+
+fn told(found: Found) -> u32 {
+    match found {
+        Found::At(i) => (i % 4294967296) as u32,
+        Found::Nothing => 4294967295,
+    }
+}
+
+#[no_mangle]
+pub extern "C" fn bits_set(words: &mut [u64], summary: &mut [u64], at: &[u32]) -> usize {
+    if misfit(words, summary) {
+        return 0;
+    }
+    let mut k = 0;
+    while k < at.len() {
+        if words.len() * 64 <= at[k] as usize {
+            return k;
+        }
+        summary_bits::set(words, summary, Coord(at[k]));
+        k += 1;
+    }
+    k
+}
+
+#[no_mangle]
+pub extern "C" fn bits_clear(words: &mut [u64], summary: &mut [u64], at: &[u32]) -> usize {
+    if misfit(words, summary) {
+        return 0;
+    }
+    let mut k = 0;
+    while k < at.len() {
+        if words.len() * 64 <= at[k] as usize {
+            return k;
+        }
+        summary_bits::clear(words, summary, Coord(at[k]));
+        k += 1;
+    }
+    k
+}
+
+#[no_mangle]
+pub extern "C" fn bits_prev(words: &[u64], summary: &[u64], at: &[u32], out: &mut [u32]) -> usize {
+    if astray(words, summary) {
+        return 0;
+    }
+    if out.len() < at.len() {
+        return 0;
+    }
+    let mut k = 0;
+    while k < at.len() {
+        if words.len() * 64 < at[k] as usize {
+            return k;
+        }
+        out[k] = told(summary_bits::prev_set_before(words, summary, Coord(at[k])));
+        k += 1;
+    }
+    k
+}
+
+#[no_mangle]
+pub extern "C" fn bits_next(words: &[u64], summary: &[u64], at: &[u32], out: &mut [u32]) -> usize {
+    if astray(words, summary) {
+        return 0;
+    }
+    if out.len() < at.len() {
+        return 0;
+    }
+    let mut k = 0;
+    while k < at.len() {
+        out[k] = told(summary_bits::next_set_after(words, summary, Coord(at[k])));
+        k += 1;
+    }
+    k
+}

@@ -1,0 +1,5 @@
+pub mod Insertion
+pub mod Partition
+pub mod Halving
+pub mod Searching
+pub mod Repeats
