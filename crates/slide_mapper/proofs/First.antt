@@ -10,7 +10,6 @@ use Rattle.base.specs.Nearest.{LastBelow, NoneBelow}
 use Rattle.base.specs.Counting.{count}
 use Rattle.base.proofs.Order.{lt-or-ge}
 use Rattle.base.proofs.Counting.{count-zero, count-next, count-same, count-none}
-use Rattle.base.specs.declared.Coord.{Coord}
 use Rattle.rules.specs.Ranks.{either, both, mark, has, size, PivotAt, Slid}
 use Rattle.summary_bits.specs.Bits.{bitAt, withOn}
 use Rattle.summary_bits.specs.Summary.{Fits, Summary, raised}
@@ -103,7 +102,7 @@ module _ {cs ws₀ ss₀ : List ℕ} (b : Blank cs ws₀ ss₀) where
     begin-some none =
         omega (arith, b .some, flags-length cs, ap (count (mark (flagsOf cs))) (flags-length cs), same-size (length cs), count-none (bitAt ws) 0 (length cs) (omega arith) (λ j l n. none j n), count-zero (bitAt ws))
 
-    pub begin-ready : (q : Coord) → LastBelow (bitAt ws) (length cs) (q .0) → Ready cs ws ss (record { pivot = q; shared = 0 })
+    pub begin-ready : (q : ℕ) → LastBelow (bitAt ws) (length cs) q → Ready cs ws ss (record { pivot = record { 0 = q }; shared = 0 })
     unfolding slideOf size
     begin-ready q a = record {
       held = record {
@@ -116,17 +115,17 @@ module _ {cs ws₀ ss₀ : List ℕ} (b : Blank cs ws₀ ss₀) where
       slid = record {
         lens = counts-length cs ∙ sym (flags-length cs);
         at = record {
-          on = sym (bits-are (q .0)) ∙ a .on;
+          on = sym (bits-are q) ∙ a .on;
           rank = omega (
             arith,
             ap (count (mark (flagsOf cs))) (flags-length cs),
-            count-same (bitAt ws) (either (mark (flagsOf cs)) (has (countsOf cs))) (q .0) (λ j. sym (bits-are j)),
-            count-next (bitAt ws) (q .0),
+            count-same (bitAt ws) (either (mark (flagsOf cs)) (has (countsOf cs))) q (λ j. sym (bits-are j)),
+            count-next (bitAt ws) q,
             a .on,
-            count-none (bitAt ws) (q .0 + 1) (length cs) (omega (arith, a .below)) (λ j l n. a .off j (omega arith) n),
+            count-none (bitAt ws) (q + 1) (length cs) (omega (arith, a .below)) (λ j l n. a .off j (omega arith) n),
             same-size (length cs),
           );
-          shared = count-none (both (mark (flagsOf cs)) (has (countsOf cs))) 0 (q .0 + 1) (omega arith) (λ j l n. omega (arith, none-active j)) ∙ count-zero (both (mark (flagsOf cs)) (has (countsOf cs)));
+          shared = count-none (both (mark (flagsOf cs)) (has (countsOf cs))) 0 (q + 1) (omega arith) (λ j l n. omega (arith, none-active j)) ∙ count-zero (both (mark (flagsOf cs)) (has (countsOf cs)));
         };
       };
     }

@@ -17,7 +17,6 @@ use Rattle.base.specs.Counting.{Same, Bump}
 use Rattle.base.proofs.Order.{lt-or-ge}
 use Rattle.base.proofs.Counting.{count-most, count-up, count-next}
 use Rattle.base.proofs.Nearest.{last-unique, last-not-none, first-unique, first-not-none}
-use Rattle.base.specs.declared.Coord.{Coord}
 use Rattle.rules.specs.Moves.{insertRef, deleteRef, inQuery, inUnion, isShared, before, after}
 use Rattle.rules.specs.Moves as moves
 use Rattle.rules.specs.Ranks.{either, both, mark, has, Slid}
@@ -240,13 +239,13 @@ module _ {cs ws ss : List ℕ} {at : Slide} (k : Ready cs ws ss at) (i : ℕ) (l
         (subst (λ (ns : List ℕ). bitAt (withOn ws i) j ≡ either (mark (flagsOf more)) (has ns) j) more-counts (more-held .bits j)))
 
     -- the nearest bit before the pivot is the rules' neighbour
-    pub inserted-other-low : i ≤ at .pivot .0 → (q : Coord) (lost : ℕ) → LastBelow (bitAt (withOn ws i)) (at .pivot .0) (q .0) → lost ≡ sharedBit more (at .pivot .0)
-        → Inserted cs ws ss at i more (withOn ws i) (raised ws ss i) (record { pivot = q; shared = at .shared - lost })
+    pub inserted-other-low : i ≤ at .pivot .0 → (q : ℕ) (lost : ℕ) → LastBelow (bitAt (withOn ws i)) (at .pivot .0) q → lost ≡ sharedBit more (at .pivot .0)
+        → Inserted cs ws ss at i more (withOn ws i) (raised ws ss i) (record { pivot = record { 0 = q }; shared = at .shared - lost })
     unfolding slideOf sharedBit
     inserted-other-low h q lost last e = record {
       counts = refl;
       slide =
-          more-slide (record { pivot = q; shared = at .shared - lost }) (before test (at .pivot .0)) (at .shared - pick (isShared (flagsOf cs) high (at .pivot .0)) 1 0)
+          more-slide (record { pivot = record { 0 = q }; shared = at .shared - lost }) (before test (at .pivot .0)) (at .shared - pick (isShared (flagsOf cs) high (at .pivot .0)) 1 0)
           (last-unique there (before-last test (at .pivot .0) (last-not-none there)))
           (ap (λ (n : ℕ). at .shared - n) (e ∙ same-share)) ∙ sym (insert-other-low (flagsOf cs) i (slideOf cs at) none-there unasked h);
       held = more-held;
@@ -258,8 +257,8 @@ module _ {cs ws ss : List ℕ} {at : Slide} (k : Ready cs ws ss at) (i : ℕ) (l
         test : ℕ → Bool
         test = inUnion (flagsOf cs) high
 
-        there : LastBelow (λ (j : ℕ). pick (test j) 1 0) (at .pivot .0) (q .0)
-        there = record { below = last .below; on = more-bits (q .0) ∙ last .on; off = λ j m n. more-bits j ∙ last .off j m n }
+        there : LastBelow (λ (j : ℕ). pick (test j) 1 0) (at .pivot .0) q
+        there = record { below = last .below; on = more-bits q ∙ last .on; off = λ j m n. more-bits j ∙ last .off j m n }
 
         same-share : min (mark (flagsOf more) (at .pivot .0)) (has (countsOf more) (at .pivot .0)) ≡ pick (isShared (flagsOf cs) high (at .pivot .0)) 1 0
         same-share = rw (more-flags, more-counts) (sym (shared-bit (flagsOf cs) high (at .pivot .0)))
@@ -391,14 +390,14 @@ module _ {cs ws ss : List ℕ} {at : Slide} (k : Ready cs ws ss at) (i : ℕ) (l
       low-length = length-set (countsOf cs) i (getD (countsOf cs) i 0 - 1) ∙ counts-length cs
 
       -- and the rules' neighbour
-      pub deleted-other-low : i ≤ at .pivot .0 → (q : Coord) (won : ℕ) → FirstFrom (bitAt (withOff ws i)) (at .pivot .0 + 1) (q .0) → won ≡ sharedBit less (q .0)
-          → Deleted cs ws ss at i less (withOff ws i) (lowered ws ss i) (record { pivot = q; shared = at .shared + won })
+      pub deleted-other-low : i ≤ at .pivot .0 → (q : ℕ) (won : ℕ) → FirstFrom (bitAt (withOff ws i)) (at .pivot .0 + 1) q → won ≡ sharedBit less q
+          → Deleted cs ws ss at i less (withOff ws i) (lowered ws ss i) (record { pivot = record { 0 = q }; shared = at .shared + won })
       unfolding slideOf sharedBit
       deleted-other-low h q won first e = record {
         counts = less-counts;
         flags = less-flags;
         slide =
-            less-slide (record { pivot = q; shared = at .shared + won }) next (at .shared + pick (isShared (flagsOf cs) low next) 1 0) is-next
+            less-slide (record { pivot = record { 0 = q }; shared = at .shared + won }) next (at .shared + pick (isShared (flagsOf cs) low next) 1 0) is-next
             (ap (λ (n : ℕ). at .shared + n) (e ∙ same-share ∙ ap (λ (n : ℕ). pick {A = ℕ} (isShared (flagsOf cs) low n) 1 0) is-next)) ∙
             sym (delete-other-low (flagsOf cs) i (slideOf cs at) above gone-now unasked′ h);
         held = less-held;
@@ -410,17 +409,17 @@ module _ {cs ws ss : List ℕ} {at : Slide} (k : Ready cs ws ss at) (i : ℕ) (l
           next : ℕ
           next = after test (at .pivot .0) (length low)
 
-          there : FirstFrom (λ (j : ℕ). pick (test j) 1 0) (at .pivot .0 + 1) (q .0)
-          there = record { from = first .from; on = less-bits (q .0) ∙ first .on; off = λ j m n. less-bits j ∙ first .off j m n }
+          there : FirstFrom (λ (j : ℕ). pick (test j) 1 0) (at .pivot .0 + 1) q
+          there = record { from = first .from; on = less-bits q ∙ first .on; off = λ j m n. less-bits j ∙ first .off j m n }
 
-          is-next : q .0 ≡ next
+          is-next : q ≡ next
           is-next =
               first-unique there
               (after-first test (at .pivot .0) (length low) (omega (arith, pivot-lt k, low-length))
-              (λ none. omega (arith, there .on, none (q .0) (there .from) (omega (arith, low-length, deleted-in (q .0) (first .on))))))
+              (λ none. omega (arith, there .on, none q (there .from) (omega (arith, low-length, deleted-in q (first .on))))))
 
-          same-share : min (mark (flagsOf less) (q .0)) (has (countsOf less) (q .0)) ≡ pick (isShared (flagsOf cs) low (q .0)) 1 0
-          same-share = rw (less-flags, less-counts) (sym (shared-bit (flagsOf cs) low (q .0)))
+          same-share : min (mark (flagsOf less) q) (has (countsOf less) q) ≡ pick (isShared (flagsOf cs) low q) 1 0
+          same-share = rw (less-flags, less-counts) (sym (shared-bit (flagsOf cs) low q))
 
       -- there is one
       pub deleted-some : i ≤ at .pivot .0 → NoneFrom (bitAt (withOff ws i)) (at .pivot .0 + 1) → ⊥

@@ -30,7 +30,10 @@ pub fn begin(counts: &[u32], words: &mut [u64], summary: &mut [u64]) -> Slide
         i += 1;
     }
     match summary_bits::prev_set_before(words, summary, Coord(n as u32)) {
-        Found::At(pivot) => Slide { pivot, shared: 0 },
+        Found::At(last) => Slide {
+            pivot: Coord(last as u32),
+            shared: 0,
+        },
         Found::Nothing => Slide {
             pivot: Coord(0),
             shared: 0,
@@ -85,7 +88,7 @@ pub fn insert_ref(
     let lost = shared_bit(counts, pivot);
     match summary_bits::prev_set_before(words, summary, pivot) {
         Found::At(before) => Slide {
-            pivot: before,
+            pivot: Coord(before as u32),
             shared: shared - lost,
         },
         Found::Nothing => at,
@@ -128,9 +131,10 @@ pub fn delete_ref(
     }
     match summary_bits::next_set_after(words, summary, pivot) {
         Found::At(after) => {
-            let won = shared_bit(counts, after);
+            let next = Coord(after as u32);
+            let won = shared_bit(counts, next);
             Slide {
-                pivot: after,
+                pivot: next,
                 shared: shared + won,
             }
         }

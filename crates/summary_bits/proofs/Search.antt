@@ -8,7 +8,7 @@ use native.Mathlib.Omega.{arith}
 use lib.Count.{leadingZeros, trailingZeros}
 use lib.ListN.{length, getD, List·getD-eq-default}
 use Rattle.base.specs.Nearest.{LastBelow, NoneBelow, FirstFrom, NoneFrom}
-use Rattle.base.proofs.Nearest.{last-unique, last-not-none, first-unique, first-not-none}
+use Rattle.base.proofs.Nearest.{last-unique, last-not-none, last-more, first-unique, first-not-none, first-more}
 use Rattle.base.proofs.Order.{lt-or-ge}
 use Rattle.summary_bits.specs.declared.Found.{Found}
 use Rattle.summary_bits.specs.declared.Found.the-variants.{At, Nothing}
@@ -45,25 +45,11 @@ next-unique f n Nothing (At q) a b = absurd (first-not-none b a)
 next-unique f n Nothing Nothing a b = refl
 
 -- an answer below n is one below m, where no place from n to m is set
-pub last-more : (f : ℕ → ℕ) (n m j : ℕ) → n ≤ m → ((k : ℕ) → n ≤ k → k < m → f k ≡ 0) → LastBelow f n j → LastBelow f m j
-last-more f n m j h none a = record {
-  below = omega arith;
-  on = a .on;
-  off = λ k l q. ⊎-elim (λ (u : k < n). a .off k l u) (λ (u : n ≤ k). none k u q) (lt-or-ge k n);
-}
-
 pub prev-more : (f : ℕ → ℕ) (n m : ℕ) → n ≤ m → ((k : ℕ) → n ≤ k → k < m → f k ≡ 0) → (r : Found) → Prev f n r → Prev f m r
 prev-more f n m h none (At q) a = last-more f n m q h none a
 prev-more f n m h none Nothing a = λ k l. ⊎-elim (λ (u : k < n). a k u) (λ (u : n ≤ k). none k u l) (lt-or-ge k n)
 
 -- an answer from m on is one from n on, where no place from n to m is set
-pub first-more : (f : ℕ → ℕ) (n m j : ℕ) → n ≤ m → ((k : ℕ) → n ≤ k → k < m → f k ≡ 0) → FirstFrom f m j → FirstFrom f n j
-first-more f n m j h none a = record {
-  from = omega arith;
-  on = a .on;
-  off = λ k l q. ⊎-elim (λ (u : k < m). none k l u) (λ (u : m ≤ k). a .off k u q) (lt-or-ge k m);
-}
-
 pub next-more : (f : ℕ → ℕ) (n m : ℕ) → n ≤ m → ((k : ℕ) → n ≤ k → k < m → f k ≡ 0) → (r : Found) → Next f m r → Next f n r
 next-more f n m h none (At q) a = first-more f n m q h none a
 next-more f n m h none Nothing a = λ k l. ⊎-elim (λ (u : k < m). none k l u) (λ (u : m ≤ k). a k u) (lt-or-ge k m)
@@ -151,6 +137,10 @@ module _ (ws ss : List ℕ) (s : Summary ws ss) where
   pub word-in : (j : ℕ) → bitAt ss j ≡ 1 → j < length ws
   word-in j e =
       ⊎-elim (λ (l : j < length ws). l) (λ (l : length ws ≤ j). absurd (omega (arith, word-pos j e, List·getD-eq-default ws 0 l))) (lt-or-ge j (length ws))
+
+  -- so does the block of a summary word that is not 0
+  pub block-in : (b : ℕ) → 0 < getD ss b 0 → getD ss b 0 < 2 ^ 64 → b * 64 < length ws
+  block-in b p h = omega (arith, word-in (b * 64 + trailingZeros 64 (getD ss b 0)) (word-low ss b p h .on))
 
   -- the highest set bit of the last such word below n
   pub prev-found : (n j r : ℕ) → LastBelow (bitAt ss) n j → LastBelow (bitAt ws) (j * 64 + 64) r → LastBelow (bitAt ws) (n * 64) r

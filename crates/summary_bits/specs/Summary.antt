@@ -14,8 +14,7 @@ Summary ws ss = (j : ℕ) → bitAt ss j ≡ min (getD ws j 0) 1
 -- the summary has a bit for each word, and the number of every bit fits a coordinate
 pub record Fits (ws ss : List ℕ) : Type 0 where
   pub room : length ws ≤ length ss * 64
-  pub words-small : length ws ≤ 2 ^ 26
-  pub summary-small : length ss ≤ 2 ^ 26
+  pub small : length ws ≤ 2 ^ 26
 
 -- the summary after bit i is set in the words ws: where the word was 0, its summary bit goes on
 unfoldable pub raised : List ℕ → List ℕ → ℕ → List ℕ

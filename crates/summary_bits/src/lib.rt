@@ -48,7 +48,7 @@ pub fn clear(words: &mut [u64], summary: &mut [u64], coord: Coord)
 
 // The highest set bit of word `j`, which is not 0.
 fn highest_in(words: &[u64], j: usize) -> usize
-    requires { ⌜ (j < length (now words)) × (length (now words) ≤ 2 ^ 26) × (0 < getD (now words) j 0) ⌝ }
+    requires { ⌜ (j < length (now words)) × (j < 2 ^ 26) × (0 < getD (now words) j 0) ⌝ }
     ensures { λ r. ⌜ LastBelow (bitAt (now (words .entry))) (j * 64 + 64) r ⌝ }
 {
     j * 64 + 63 - u64::leading_zeros(words[j]) as usize
@@ -105,7 +105,7 @@ pub fn prev_set_before(words: &[u64], summary: &[u64], coord: Coord) -> Found
 
 // The lowest set bit of word `j`, which is not 0.
 fn lowest_in(words: &[u64], j: usize) -> usize
-    requires { ⌜ (j < length (now words)) × (length (now words) ≤ 2 ^ 26) × (0 < getD (now words) j 0) ⌝ }
+    requires { ⌜ (j < length (now words)) × (j < 2 ^ 26) × (0 < getD (now words) j 0) ⌝ }
     ensures { λ r. ⌜ FirstFrom (bitAt (now (words .entry))) (j * 64) r ⌝ }
 {
     j * 64 + u64::trailing_zeros(words[j]) as usize

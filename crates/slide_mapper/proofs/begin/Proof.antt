@@ -97,8 +97,14 @@ prev-set-before-requires c κs =
     let d = c .before .before in begin-asks (st (d .before) .pre) (all d)
 
 -- src/lib.rt:33:19
-enum-known-pivot : tie.Need-enum-known-pivot Inv-loop μ-loop
-enum-known-pivot c = search needs
+enum-known-last : tie.Need-enum-known-last Inv-loop μ-loop
+enum-known-last c = search needs
+
+cast-t25 : tie.Need-cast-t25 Inv-loop μ-loop
+cast-t25 c =
+    let d = c .before .before .before in
+    let l = d .before .before .before in
+    omega (arith, prev-at (c .before .last .given .1) (d .prev-set-before .ensures) .below, l .before .loop .inv .0, st (l .before) .pre .small)
 
 -- src/lib.rt:34:42
 enum-told : tie.Need-enum-told Inv-loop μ-loop
@@ -117,7 +123,7 @@ returns : tie.Need-returns Inv-loop μ-loop
 returns c =
     let d = c .before .before .before in
     let l = d .before .before .before in
-    (refl, begin-ready (st (l .before) .pre) (all l) (c .before .pivot .given .0 .0) (prev-at (c .before .pivot .given .1) (d .prev-set-before .ensures)))
+    (refl, begin-ready (st (l .before) .pre) (all l) (c .before .last .given .0 .0) (prev-at (c .before .last .given .1) (d .prev-set-before .ensures)))
 
 -- src/lib.rt:18:1
 same-length-3 : tie.Need-same-length-3 Inv-loop μ-loop
@@ -153,7 +159,8 @@ begin-spec =
     loop-again-2
     cast-t22
     prev-set-before-requires
-    enum-known-pivot
+    enum-known-last
+    cast-t25
     enum-told
     same-length
     same-length-2

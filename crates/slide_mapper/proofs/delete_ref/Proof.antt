@@ -48,9 +48,9 @@ two a = omega (arith, else1 a .if1 .left, a .before .before .before .before .bef
 abbrev cleared : tie.After-after → tie.After-clear
 cleared d = d .before .before .before .before .before .before .before .before .before .before .before .before
 
-found : (d : tie.After-after) → FirstFrom (bitAt (withOff (now (st (k₁ (cleared d)) .args .words)) (i (k₁ (cleared d))))) (st (k₁ (cleared d)) .args .at .pivot .0 + 1) (d .after .given .0 .0 .0)
+found : (d : tie.After-after) → FirstFrom (bitAt (withOff (now (st (k₁ (cleared d)) .args .words)) (i (k₁ (cleared d))))) (st (k₁ (cleared d)) .args .at .pivot .0 + 1) (d .after .given .0 .0)
 found d =
-    subst (λ (x : List ℕ). FirstFrom (bitAt x) (st (k₁ (cleared d)) .args .at .pivot .0 + 1) (d .after .given .0 .0 .0)) (cleared d .clear .ensures .0)
+    subst (λ (x : List ℕ). FirstFrom (bitAt x) (st (k₁ (cleared d)) .args .at .pivot .0 + 1) (d .after .given .0 .0)) (cleared d .clear .ensures .0)
     (next-at (d .after .given .1) (d .before .before .next-set-after .ensures))
 
 -- src/lib.rt:63:13
@@ -88,8 +88,8 @@ returns-2 c =
     let k = c .before .before in deleted-again (st k .pre .0) (i k) (st k .pre .1) (some (c .before)) (c .if2 .taken)
 
 -- src/lib.rt:76:43
-sub-t18 : tie.Need-sub-t18
-sub-t18 c =
+sub-t19 : tie.Need-sub-t19
+sub-t19 c =
     let e = c .before .before .before .before .before .before in let k = e .before in deleted-pos (st k .pre .0) (i k) (st k .pre .1) (some e) (c .before .before .before .if3 .taken) (c .if4 .taken)
 
 -- src/lib.rt:76:13
@@ -147,20 +147,27 @@ next-set-after-requires c κs =
 enum-known-after : tie.Need-enum-known-after
 enum-known-after c = search needs
 
+cast-t31 : tie.Need-cast-t31
+cast-t31 c =
+    let d = c .before in
+    let a = cleared d in
+    let k = k₁ a in
+    omega (arith, deleted-in (st k .pre .0) (i k) (st k .pre .1) (some (else1 a)) (two a) (d .after .given .0 .0) (found d .on), st k .pre .0 .held .small)
+
 -- src/lib.rt:86:17
 shared-bit-requires : tie.Need-shared-bit-requires
 shared-bit-requires c κs =
     let d = c .before .before in
     let a = cleared d in
     let k = k₁ a in
-    omega (arith, length-set (cs k) (i k) (getD (cs k) (i k) 0 - 2), deleted-in (st k .pre .0) (i k) (st k .pre .1) (some (else1 a)) (two a) (d .after .given .0 .0 .0) (found d .on))
+    omega (arith, length-set (cs k) (i k) (getD (cs k) (i k) 0 - 2), deleted-in (st k .pre .0) (i k) (st k .pre .1) (some (else1 a)) (two a) (d .after .given .0 .0) (found d .on))
 
 -- src/lib.rt:87:43
-add-t32 : tie.Need-add-t32
-add-t32 c =
+add-t31 : tie.Need-add-t31
+add-t31 c =
     let d = c .before .before .before in
     let k = k₁ (cleared d) in
-    omega (arith, shared-lt (st k .pre .0), c .shared-bit .ensures, bit-le (set (cs k) (i k) (getD (cs k) (i k) 0 - 2)) (d .after .given .0 .0 .0))
+    omega (arith, shared-lt (st k .pre .0), c .shared-bit .ensures, bit-le (set (cs k) (i k) (getD (cs k) (i k) 0 - 2)) (d .after .given .0 .0))
 
 -- src/lib.rt:89:27
 enum-told : tie.Need-enum-told
@@ -222,7 +229,7 @@ delete-ref-spec =
     slice-write-counts
     same-length
     returns-2
-    sub-t18
+    sub-t19
     same-length-2
     returns-3
     same-length-3
@@ -234,8 +241,9 @@ delete-ref-spec =
     returns-5
     next-set-after-requires
     enum-known-after
+    cast-t31
     shared-bit-requires
-    add-t32
+    add-t31
     enum-told
     same-length-7
     same-length-8

@@ -129,9 +129,15 @@ prev-set-before-requires c κs =
 enum-known-before : tie.Need-enum-known-before
 enum-known-before c = search needs
 
+cast-t32 : tie.Need-cast-t32
+cast-t32 c =
+    let d = c .before .before .before .before .before .before in
+    let k = k₁ (d .before .before .before .before .before .before .before .before .before) in
+    omega (arith, prev-at (c .before .before2 .given .1) (c .before .before .before .prev-set-before .ensures) .below, pivot-lt (st k .pre .0), st k .pre .0 .held .small)
+
 -- src/lib.rt:54:61
-sub-t32 : tie.Need-sub-t32
-sub-t32 c =
+sub-t34 : tie.Need-sub-t34
+sub-t34 c =
     let d = c .before .before .before .before .before .before in
     let a = d .before .before .before .before .before .before .before .before .before in
     let k = k₁ a in
@@ -161,8 +167,8 @@ returns-5 c =
     let k = k₁ a in
     let q = c .before .before2 .given .0 .0 in
     let p = st k .args .at .pivot .0 in
-    let last : LastBelow (bitAt (withOn (now (st k .args .words)) (i k))) p (q .0) =
-    subst (λ (x : List ℕ). LastBelow (bitAt x) p (q .0)) (a .set .ensures .0) (prev-at (c .before .before2 .given .1) (c .before .before .before .prev-set-before .ensures)) in
+    let last : LastBelow (bitAt (withOn (now (st k .args .words)) (i k))) p q =
+    subst (λ (x : List ℕ). LastBelow (bitAt x) p q) (a .set .ensures .0) (prev-at (c .before .before2 .given .1) (c .before .before .before .prev-set-before .ensures)) in
     inserted-as (a .set .ensures .0) (a .set .ensures .1)
     (inserted-other-low (st k .pre .0) (i k) (st k .pre .1) (none a) (d .before .before .if4 .left) q (d .shared-bit .result) last (d .shared-bit .ensures))
 
@@ -214,7 +220,8 @@ insert-ref-spec =
     shared-bit-requires
     prev-set-before-requires
     enum-known-before
-    sub-t32
+    cast-t32
+    sub-t34
     enum-told
     same-length-7
     same-length-8

@@ -6,10 +6,11 @@ use Prim.Native.Nat.{ℕ, _+_, _-_, _*_, _≤_, _<_}
 use native.Mathlib.Omega.{arith}
 use denote.Ref.{now}
 use lib.ListN.{getD}
+use Rattle.base.proofs.Nearest.{last-more}
 use Rattle.base.proofs.Order.{lt-or-ge}
 use Rattle.summary_bits.specs.Bits.{bitAt}
 use Rattle.summary_bits.proofs.Words.{bitAt-zero}
-use Rattle.summary_bits.proofs.Search.{last-more, word-in, word-pos, prev-found, prev-none}
+use Rattle.summary_bits.proofs.Search.{word-in, word-pos, block-in, prev-found, prev-none}
 use borrow.Author.Needs.{needs}
 use Rattle.summary_bits.proofs.before_block.Statement.{statement}
 use Rattle.summary_bits.proofs.before_block.Tie as tie
@@ -46,14 +47,20 @@ sub-highest-in : tie.Need-sub-highest-in Inv-loop μ-loop
 sub-highest-in c = search needs
 
 highest-in-requires : tie.Need-highest-in-requires Inv-loop μ-loop
-highest-in-requires c κs = search needs
+highest-in-requires c κs =
+    let l = c .before .before .before in
+    let b = l .loop .end - 1 in
+    let p : 0 < getD (ss l) b 0 = omega arith in
+    let i = block-in (ws l) (ss l) (entry l .pre .1) b p (omega (arith, c .before .shared-slice-known3 .given b)) in
+    (search needs, omega (arith, entry l .pre .0 .small), p)
 
 highest-in-requires-2 : tie.Need-highest-in-requires-2 Inv-loop μ-loop
 highest-in-requires-2 c κs =
     let l = c .before .before .before .before in
     let s = entry l .pre .1 in
     let on = c .highest-in .ensures .on in
-    (word-in (ws l) (ss l) s (c .highest-in .result) on, search needs, word-pos (ws l) (ss l) s (c .highest-in .result) on)
+    let i = word-in (ws l) (ss l) s (c .highest-in .result) on in
+    (i, omega (arith, entry l .pre .0 .small), word-pos (ws l) (ss l) s (c .highest-in .result) on)
 
 returns : tie.Need-returns Inv-loop μ-loop
 returns c =

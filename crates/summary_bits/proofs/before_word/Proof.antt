@@ -66,7 +66,8 @@ sub-highest-in c = omega (arith, near c)
 highest-in-requires : tie.Need-highest-in-requires
 highest-in-requires c κs =
     let d = c .before in
-    (word-in (ws d) (ss d) (entry d .pre .1) (j c) (word c .on), search needs, word-pos (ws d) (ss d) (entry d .pre .1) (j c) (word c .on))
+    let i = word-in (ws d) (ss d) (entry d .pre .1) (j c) (word c .on) in
+    (i, omega (arith, entry d .pre .0 .small), word-pos (ws d) (ss d) (entry d .pre .1) (j c) (word c .on))
 
 returns-2 : tie.Need-returns-2
 returns-2 c =

@@ -6,10 +6,11 @@ use Prim.Native.Nat.{ℕ, _-_, _*_, _≤_, _<_}
 use native.Mathlib.Omega.{arith}
 use denote.Ref.{now}
 use lib.ListN.{length, getD}
+use Rattle.base.proofs.Nearest.{first-more}
 use Rattle.base.proofs.Order.{lt-or-ge}
 use Rattle.summary_bits.specs.Bits.{bitAt}
 use Rattle.summary_bits.proofs.Words.{bitAt-zero, past-end}
-use Rattle.summary_bits.proofs.Search.{first-more, word-in, word-pos, next-found, next-none}
+use Rattle.summary_bits.proofs.Search.{word-in, word-pos, block-in, next-found, next-none}
 use borrow.Author.Needs.{needs}
 use Rattle.summary_bits.proofs.from_block.Statement.{statement}
 use Rattle.summary_bits.proofs.from_block.Tie as tie
@@ -40,14 +41,20 @@ shared-slice-read-if1 : tie.Need-shared-slice-read-if1 Inv-loop μ-loop
 shared-slice-read-if1 c = search needs
 
 lowest-in-requires : tie.Need-lowest-in-requires Inv-loop μ-loop
-lowest-in-requires c κs = search needs
+lowest-in-requires c κs =
+    let l = c .before .before .before in
+    let b = l .loop .at in
+    let p : 0 < getD (ss l) b 0 = omega arith in
+    let i = block-in (ws l) (ss l) (entry l .pre .1) b p (omega (arith, c .before .shared-slice-known3 .given b)) in
+    (search needs, omega (arith, entry l .pre .0 .small), p)
 
 lowest-in-requires-2 : tie.Need-lowest-in-requires-2 Inv-loop μ-loop
 lowest-in-requires-2 c κs =
     let l = c .before .before .before .before in
     let s = entry l .pre .1 in
     let on = c .lowest-in .ensures .on in
-    (word-in (ws l) (ss l) s (c .lowest-in .result) on, search needs, word-pos (ws l) (ss l) s (c .lowest-in .result) on)
+    let i = word-in (ws l) (ss l) s (c .lowest-in .result) on in
+    (i, omega (arith, entry l .pre .0 .small), word-pos (ws l) (ss l) s (c .lowest-in .result) on)
 
 returns : tie.Need-returns Inv-loop μ-loop
 returns c =

@@ -64,7 +64,8 @@ add-lowest-in c = omega (arith, near c)
 lowest-in-requires : tie.Need-lowest-in-requires
 lowest-in-requires c κs =
     let d = c .before in
-    (word-in (ws d) (ss d) (entry d .pre .1) (j c) (word c .on), search needs, word-pos (ws d) (ss d) (entry d .pre .1) (j c) (word c .on))
+    let i = word-in (ws d) (ss d) (entry d .pre .1) (j c) (word c .on) in
+    (i, omega (arith, entry d .pre .0 .small), word-pos (ws d) (ss d) (entry d .pre .1) (j c) (word c .on))
 
 returns-2 : tie.Need-returns-2
 returns-2 c =
