@@ -116,6 +116,18 @@ fn script(query: Vec<u64>, coords: Vec<u64>, inserts: Vec<u32>) -> Case {
 }
 
 fn script_rows() -> Vec<Row> {
+    [
+        script_size_rows(),
+        script_query_rows(),
+        script_coords_rows(),
+        script_member_rows(),
+    ]
+    .into_iter()
+    .flatten()
+    .collect()
+}
+
+fn script_size_rows() -> Vec<Row> {
     let limit_coords: Vec<u64> = (0..=MOST_COORDS as u64).collect();
     vec![
         Row {
@@ -150,6 +162,11 @@ fn script_rows() -> Vec<Row> {
             original: &["pivot 0 shared 1"],
             note: "the original has no limit",
         },
+    ]
+}
+
+fn script_query_rows() -> Vec<Row> {
+    vec![
         Row {
             input: "query empty, coordinate 1",
             case: script(vec![], vec![1], vec![]),
@@ -171,6 +188,11 @@ fn script_rows() -> Vec<Row> {
             original: &["pivot 0 shared 0"],
             note: "the union has no second smallest hash",
         },
+    ]
+}
+
+fn script_coords_rows() -> Vec<Row> {
+    vec![
         Row {
             input: "coordinates 2, 1; query 2",
             case: script(vec![2], vec![2, 1], vec![]),
@@ -198,6 +220,11 @@ fn script_rows() -> Vec<Row> {
             original: &["pivot 1 shared 0", "pivot 0 shared 0"],
             note: "which of the two is not said by the search",
         },
+    ]
+}
+
+fn script_member_rows() -> Vec<Row> {
+    vec![
         Row {
             input: "query 2, coordinate 1",
             case: script(vec![2], vec![1], vec![]),
@@ -427,6 +454,13 @@ fn finder(mode: Mode, starts: Vec<u32>, ends: Vec<u32>, minimum: u32) -> FinderC
 }
 
 fn finder_rows() -> Vec<Row> {
+    [finder_size_rows(), finder_minimum_rows()]
+        .into_iter()
+        .flatten()
+        .collect()
+}
+
+fn finder_size_rows() -> Vec<Row> {
     let mut many_groups = finder(Mode::Minimizer, vec![], vec![], 1);
     many_groups.groups = vec![0; MOST_GROUPS + 1];
     vec![
@@ -444,6 +478,11 @@ fn finder_rows() -> Vec<Row> {
             original: &["[0..0] of 61441 hits"],
             note: "the original has no limit; nor has the interval finder",
         },
+    ]
+}
+
+fn finder_minimum_rows() -> Vec<Row> {
+    vec![
         Row {
             input: "one hit at 0, minimum 0",
             case: Case::Finder(finder(Mode::Minimizer, vec![0], vec![], 0)),
