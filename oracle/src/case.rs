@@ -1,7 +1,7 @@
 //! One case: a library call run on the original and on the model, and what came of it.
 
 use crate::call::{
-    FinderAnswer, FinderCall, Mode, ScriptAnswer, ScriptCall, SweepAnswer, SweepCall,
+    Best, FinderAnswer, FinderCall, Mode, ScriptAnswer, ScriptCall, SweepAnswer, SweepCall,
 };
 use crate::{model, original};
 
@@ -95,32 +95,35 @@ fn judge_sweep(call: &SweepCall, patience: Patience) -> Judged {
     if let SweepAnswer::Refused(refusal) = modelled {
         return only(refused(refusal.number));
     }
-    let mut judged = only(sweep_kind(call, &modelled));
+    let (best, _) = model::by_steps(call);
+    let mut judged = only(sweep_kind(&modelled, best));
+    if best.is_some_and(|best| best.first < best.last) {
+        judged.kinds.push("best at several positions");
+    }
     let original = original::sweep(call);
     let same = matches!(&original, Ok(answer) if same_sweep(answer, &modelled));
     if !same {
         judged.difference = Some(format!("original {original:?}\n   model {modelled:?}"));
     }
-    if let (Some(best), _) = model::by_steps(call) {
-        if best.first < best.last {
-            judged.kinds.push("best at several positions");
-        }
-    }
     if model::in_premises(call) {
-        judge_scoring(call, patience, &mut judged);
+        judge_scoring(call, best, patience, &mut judged);
     }
     judged
 }
 
 /// Demand 3: the best by steps is the best by scoring every start.
-fn judge_scoring(call: &SweepCall, patience: Patience, judged: &mut Judged) {
+fn judge_scoring(
+    call: &SweepCall,
+    by_steps: Option<Best>,
+    patience: Patience,
+    judged: &mut Judged,
+) {
     judged.kinds.push("in demand 3's premises");
     let width = (call.query.len() + call.hashes.len()) as u64;
     if model::starts_to_score(call).saturating_mul(width) > patience {
         return;
     }
     judged.kinds.push("in the premises, every start scored");
-    let (by_steps, _) = model::by_steps(call);
     let by_scoring = model::by_scoring(call);
     if by_steps != by_scoring {
         judged.difference = Some(format!(
@@ -129,11 +132,11 @@ fn judge_scoring(call: &SweepCall, patience: Patience, judged: &mut Judged) {
     }
 }
 
-fn sweep_kind(call: &SweepCall, answer: &SweepAnswer) -> &'static str {
+fn sweep_kind(answer: &SweepAnswer, best: Option<Best>) -> &'static str {
     match answer {
         SweepAnswer::Refused(refusal) => refused(refusal.number),
         SweepAnswer::Nothing(stats) if stats.coords == 0 => "none before coordinates",
-        SweepAnswer::Nothing(_) if model::by_steps(call).0.is_none() => "none, no best score",
+        SweepAnswer::Nothing(_) if best.is_none() => "none, no best score",
         SweepAnswer::Nothing(_) => "none by identity",
         SweepAnswer::Placed(place, _) if place.upper.is_nan() => "placed, upper bound NaN",
         SweepAnswer::Placed(place, _) if place.shared == 0 => "placed, shared 0",
@@ -162,11 +165,9 @@ const MOST_ASKED: u32 = 64;
 
 fn judge_finder(call: &FinderCall) -> Judged {
     let modelled = model::finder(call);
-    let FinderAnswer::Listed { ranges, .. } = &modelled else {
-        return only(match &modelled {
-            FinderAnswer::Refused(refusal) => refused(refusal.number),
-            FinderAnswer::Listed { .. } => "listed",
-        });
+    let ranges = match &modelled {
+        FinderAnswer::Refused(refusal) => return only(refused(refusal.number)),
+        FinderAnswer::Listed { ranges, .. } => ranges,
     };
     let mut judged = only(match ranges.len() {
         0 => "listed 0",

@@ -30,6 +30,11 @@ impl Tally {
         false
     }
 
+    /// How often this kind of answer came of this call.
+    pub fn count(&self, call: &'static str, kind: &'static str) -> u64 {
+        self.counts.get(&(call, kind)).copied().unwrap_or(0)
+    }
+
     pub fn print(&self, seconds: f64) {
         for ((call, kind), count) in &self.counts {
             println!("{call:16} {kind:36} {count:>10}");
@@ -47,12 +52,19 @@ fn report(case: &Case, patience: Patience) {
     }
 }
 
-/// Mostly small cases, or all of one size; stops at the first difference and answers whether there was none.
+/// Prints how often each kind of answer came, and answers whether there was no difference.
 pub fn run(seed: u64, count: u64, only: Option<Size>) -> bool {
     let began = Instant::now();
+    let (tally, all_same) = judged(seed, count, only);
+    println!("seed {seed}");
+    tally.print(began.elapsed().as_secs_f64());
+    all_same
+}
+
+/// Mostly small cases, or all of one size, up to the first difference.
+pub fn judged(seed: u64, count: u64, only: Option<Size>) -> (Tally, bool) {
     let mut random = Random::new(seed);
     let mut tally = Tally::default();
-    let mut all_same = true;
     for _ in 0..count {
         let size = only.unwrap_or(match random.once_in(500) {
             true => Size::Medium,
@@ -62,12 +74,9 @@ pub fn run(seed: u64, count: u64, only: Option<Size>) -> bool {
             Size::Small => SMALL_PATIENCE,
             Size::Medium | Size::Limit => LIMIT_PATIENCE,
         };
-        all_same = tally.judge(&generate::case(&mut random, size), patience);
-        if !all_same {
-            break;
+        if !tally.judge(&generate::case(&mut random, size), patience) {
+            return (tally, false);
         }
     }
-    println!("seed {seed}");
-    tally.print(began.elapsed().as_secs_f64());
-    all_same
+    (tally, true)
 }

@@ -1,12 +1,13 @@
-//! The worked examples A to K of document 01, on the original and on the model.
+//! The worked examples A to K of document 01, and the job of B2, on the original and on the model.
 
 use crate::call::{
     Candidate, FinderAnswer, FinderCall, Mode, Place, ScriptAnswer, ScriptCall, Stats, SweepAnswer,
     SweepCall,
 };
 use crate::case::{same_sweep, Case};
-use crate::model::needs;
-use crate::{model, original};
+use crate::model::{lines, needs};
+use crate::vectors::job_cases;
+use crate::{job_command, model, original};
 
 /// What an example must answer.
 pub enum Wanted {
@@ -25,18 +26,36 @@ pub struct Example {
 pub fn run() -> bool {
     let mut all_ok = true;
     for example in all() {
-        let (by_original, by_model) = holds(&example);
-        let word = |ok: bool| if ok { "ok" } else { "FAIL" };
-        println!(
-            "{:3} {:16} original {:4} model {}",
-            example.name,
-            example.case.call_name(),
-            word(by_original),
-            word(by_model)
-        );
-        all_ok &= by_original && by_model;
+        all_ok &= report(example.name, example.case.call_name(), holds(&example));
     }
-    all_ok
+    all_ok & report("B2", "job", b2_job_holds())
+}
+
+fn report(name: &str, what: &str, (by_original, by_model): (bool, bool)) -> bool {
+    let word = |ok: bool| if ok { "ok" } else { "FAIL" };
+    println!(
+        "{name:3} {what:16} original {:4} model {}",
+        word(by_original),
+        word(by_model)
+    );
+    by_original && by_model
+}
+
+const B2_LINES: &str = "mapped 8 17 2 2
+identity 4059000000000000 4059000000000000
+counts 5 4 5
+";
+
+/// The 167-byte job of B2 prints the paper's three lines.
+fn b2_job_holds() -> (bool, bool) {
+    let bytes = job_cases::b2();
+    let by_original = lines::printed(&bytes, job_command::original_sweep);
+    let by_model = lines::printed(&bytes, model::sweep);
+    let sized = bytes.len() == 167;
+    (
+        sized && by_original == B2_LINES,
+        sized && by_model == B2_LINES,
+    )
 }
 
 fn holds(example: &Example) -> (bool, bool) {

@@ -1,5 +1,6 @@
 //! `oracle COMMAND`: see README.md.
 
+use std::path::Path;
 use std::process::ExitCode;
 
 use oracle::generate::Size;
@@ -7,7 +8,12 @@ use oracle::generate::Size;
 const USAGE: &str = "usage: oracle examples
        oracle diff SEED COUNT [small|medium|limit]
        oracle exhaust
-       oracle antt SEED COUNT";
+       oracle antt SEED COUNT
+       oracle differences
+       oracle job < FILE
+       oracle jobs SEED COUNT
+       oracle vectors FOLDER
+       oracle vectors --check FOLDER";
 
 fn main() -> ExitCode {
     let arguments: Vec<String> = std::env::args().skip(1).collect();
@@ -30,6 +36,11 @@ fn run(arguments: &[&str]) -> Option<bool> {
         ["diff", seed, count, size] => diff(seed, count, Some(size)),
         ["exhaust"] => Some(oracle::exhaust::run()),
         ["antt", seed, count] => Some(oracle::antt::run(seed.parse().ok()?, count.parse().ok()?)),
+        ["differences"] => Some(oracle::differences::run()),
+        ["job"] => Some(oracle::job_command::job()),
+        ["jobs", seed, count] => jobs(seed, count),
+        ["vectors", "--check", folder] => Some(oracle::vectors::check(Path::new(folder))),
+        ["vectors", folder] => Some(oracle::vectors::write(Path::new(folder))),
         _ => None,
     }
 }
@@ -47,4 +58,9 @@ fn diff(seed: &str, count: &str, size: Option<&str>) -> Option<bool> {
         count.parse().ok()?,
         size,
     ))
+}
+
+fn jobs(seed: &str, count: &str) -> Option<bool> {
+    let (seed, count) = (seed.parse().ok()?, count.parse().ok()?);
+    Some(oracle::job_command::compare(seed, count))
 }

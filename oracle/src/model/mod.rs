@@ -3,6 +3,8 @@
 
 pub mod finder;
 pub mod interval;
+pub mod job;
+pub mod lines;
 pub mod minimizer;
 pub mod needs;
 pub mod place;
