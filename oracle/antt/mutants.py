@@ -34,7 +34,7 @@ def main():
     chosen = mutants()
     first = int(sys.argv[1]) if len(sys.argv) > 1 else 0
     last = int(sys.argv[2]) if len(sys.argv) > 2 else len(chosen)
-    top = workspace.copy("mutants", tables=True)
+    top = workspace.copy("mutants%d" % first, tables=True)
     proved, said = workspace.check(top)
     if not proved:
         sys.exit("the definitions are not proved as they stand: " + said[-400:])

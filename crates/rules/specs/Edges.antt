@@ -1,14 +1,13 @@
 -- Rows of our own, at the edges: where demand 3's premises hold, each refusal with its place, needs exactly met and one short, every way to none,
 -- and each refusal of a job file.
-use Prim.Native.Nat.{ℕ, suc, _+_}
+use Prim.Native.Nat.{ℕ, _+_}
 use mathlib.Core.Path.{_≡_, refl}
-use mathlib.Core.Bool.{Bool, true, false}
+use mathlib.Core.Bool.{true, false}
 use mathlib.Core.List.{List, [], _∷_, _++_, map}
 use lib.ListN.{length, take, drop, set, replicate}
 use lib.Ieee.{Float, binary64, ofBits, nan}
 use Rattle.base.specs.declared.Verdict.{Verdict}
 use Rattle.base.specs.declared.Verdict.the-variants.{Fine}
-use Rattle.rules.specs.Lists.{upFrom}
 use Rattle.rules.specs.Text.{text}
 use Rattle.rules.specs.Script.{Script, looks}
 use Rattle.rules.specs.Moves.{looksByMoves}
@@ -18,7 +17,7 @@ use Rattle.rules.specs.Finder.{Finder, seedHits, minimizerFound, interva
 use Rattle.rules.specs.Checks.{refuse, minimizerSizes, intervalSizes, sweepOrders, sweepTable, sweepNeeds, keysNeed, scriptSizes, scriptOrders, scriptMembers, scriptNeeds, minimizerFinderSizes, minimizerFinderLengths, intervalFinderSizes, intervalFinderLengths, finderNeeds, endKeysNeed}
 use Rattle.rules.specs.Refusals.{SweepRoom, ScriptRoom, FinderRoom, minimizerCall, intervalCall, scriptCall, minimizerFinderCall, intervalFinderCall, workLeft, outputLeft}
 use Rattle.rules.specs.Lines.{said}
-use Rattle.rules.specs.Told.{Told, toldDone, toldSweep, toldScript, toldFinder, toldLooks, toldCandidates}
+use Rattle.rules.specs.Told.{toldDone, toldSweep, toldScript, toldFinder, toldLooks, toldCandidates}
 use Rattle.rules.specs.Calls.{minimizerPremises, intervalPremises}
 use Rattle.rules.specs.Computes.{computes}
 use Rattle.rules.specs.Examples.{Row, says, prints, list, placed, nothing, refused, scriptA, emptyScript, f0, f50, f100, sweepOf, caseB, caseC, caseD, caseE, caseF, caseG, jobB2}
