@@ -7,6 +7,8 @@ import sys
 import workspace
 
 HERE = os.path.dirname(os.path.abspath(__file__))
+# The table of jobs is dear, and is asked only where these definitions are wrong.
+OF_JOBS = ("Limits", "Text", "Job", "Lines")
 
 
 def mutants():
@@ -15,6 +17,7 @@ def mutants():
 
 
 def verdict(top, file, old, new):
+    workspace.keep(top, "JobEdges", file in OF_JOBS)
     path = os.path.join(top, "crates", "rules", "specs", file + ".antt")
     text = open(path, encoding="utf-8").read()
     if text.count(old) != 1:

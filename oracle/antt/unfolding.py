@@ -8,7 +8,7 @@ TOP = os.path.dirname(os.path.dirname(os.path.dirname(os.path.abspath(__file__))
 SPECS = os.path.join(TOP, "crates", "rules", "specs")
 BASE = os.path.join(TOP, "crates", "base", "specs")
 # Files whose definitions no row computes with: the claims themselves, and this list.
-CLAIMS = ("Computes", "Examples", "Edges")
+CLAIMS = ("Computes", "Examples", "Edges", "JobEdges")
 
 
 def modules(folder):
