@@ -98,15 +98,33 @@ caseBetween = sweepOf (40 ∷ 20 ∷ 30 ∷ []) (0 ∷ 5 ∷ 5 ∷ []) (9 ∷ 9 
 abbrev pub f150 : Float
 f150 = ofBits binary64 0x4062c00000000000
 
--- Premises. B1, B2, a tie, equal positions that are not local: inside. C, W below 1, no query hash: outside.
-pub minimizer-inside : map minimizerPremises (caseB 10 ∷ caseB 11 ∷ caseTie ∷ sweepOf hashesB (0 ∷ 0 ∷ 8 ∷ 12 ∷ 20 ∷ []) [] 1 11 ∷ caseC ∷ fragmentB 3 2 3 ∷ queriedB [] ∷ []) ≡ true ∷ true ∷ true ∷ true ∷ false ∷ false ∷ false ∷ []
+-- B2 from 1 on, with two equal positions at 0, which are not local
+abbrev pub caseElsewhere : Sweep
+caseElsewhere = sweepOf hashesB (0 ∷ 0 ∷ 8 ∷ 12 ∷ 20 ∷ []) [] 1 11
+
+-- E with an empty interval 20[0,0), which is not taken
+abbrev pub caseUntaken : Sweep
+caseUntaken = sweepOf (20 ∷ 30 ∷ []) (0 ∷ 2 ∷ []) (0 ∷ 9 ∷ []) 3 5
+
+-- Demand 3's premises hold of B1, B2, a tie, and equal positions that are not local;
+pub minimizer-inside : map minimizerPremises (caseB 10 ∷ caseB 11 ∷ caseTie ∷ caseElsewhere ∷ []) ≡ true ∷ true ∷ true ∷ true ∷ []
 unfolding computes
 minimizer-inside = refl
 
--- D, E, an empty interval that is not taken: inside. F and a reversed range, settled as none before; G: outside.
-pub interval-inside : map intervalPremises (caseD ∷ caseE ∷ sweepOf (20 ∷ 30 ∷ []) (0 ∷ 2 ∷ []) (0 ∷ 9 ∷ []) 3 5 ∷ caseF ∷ sweepOf (30 ∷ []) (2 ∷ []) (9 ∷ []) 5 3 ∷ caseG ∷ []) ≡ true ∷ true ∷ true ∷ false ∷ false ∷ false ∷ []
+-- not of C, of W below 1, of no query hash;
+pub minimizer-outside : map minimizerPremises (caseC ∷ fragmentB 3 2 3 ∷ queriedB [] ∷ []) ≡ false ∷ false ∷ false ∷ []
+unfolding computes
+minimizer-outside = refl
+
+-- of D, E, and an empty interval that is not taken;
+pub interval-inside : map intervalPremises (caseD ∷ caseE ∷ caseUntaken ∷ []) ≡ true ∷ true ∷ true ∷ []
 unfolding computes
 interval-inside = refl
+
+-- not of F and a reversed range, which are none before scoring, nor of G
+pub interval-outside : map intervalPremises (caseF ∷ caseOne 2 9 5 3 ∷ caseG ∷ []) ≡ false ∷ false ∷ false ∷ []
+unfolding computes
+interval-outside = refl
 
 -- a row of a check: what it says, and what it should say
 pub record Judged : Type 0 where
@@ -364,7 +382,7 @@ answers =
     -- it ends within the range; at range end. The mean of 4 and 5 is rounded down
     says (toldSweep (intervalAnswer (caseOne 0 6 4 9))) (placed 4 13 1 6 2 1 f50) ∷
     says (toldSweep (intervalByScoring (caseOne 0 6 4 9))) (placed 4 13 1 6 2 1 f50) ∷
-    says (toldSweep (intervalAnswer (caseOne 0 6 5 6))) (placed 5 14 1 2 2 1 f50) ∷
+    says (toldSweep (intervalAnswer (caseOne 0 6 4 6))) (placed 4 13 1 3 2 1 f50) ∷
     -- events at one position
     says (toldSweep (intervalAnswer caseMeet)) (placed 5 14 1 5 2 2 f50) ∷
     says (toldSweep (intervalByScoring caseMeet)) (placed 5 14 1 5 2 2 f50) ∷
