@@ -6,6 +6,7 @@ use std::time::Instant;
 use crate::case::{Case, Patience, LIMIT_PATIENCE, SMALL_PATIENCE};
 use crate::generate::{self, Size};
 use crate::random::Random;
+use crate::readable::readable;
 use crate::shrink::shrunk;
 
 /// How often each kind of answer came, by call.
@@ -45,8 +46,7 @@ impl Tally {
 
 fn report(case: &Case, patience: Patience) {
     let case = shrunk(case, patience);
-    println!("DIFFERENCE in {}", case.call_name());
-    println!("{case:?}");
+    println!("DIFFERENCE in {}", readable(&case));
     if let Some(difference) = case.judge(patience).difference {
         println!("{difference}");
     }

@@ -7,9 +7,12 @@ use crate::case::{Case, SMALL_PATIENCE};
 use crate::diff::Tally;
 use crate::model::needs;
 
+/// Judges all cases of one domain, up to the first difference; answers whether there was none.
+type Part = fn(&mut Tally) -> bool;
+
 /// Stops at the first difference and answers whether there was none.
 pub fn run() -> bool {
-    let parts: [(&str, fn(&mut Tally) -> bool); 5] = [
+    let parts: [(&str, Part); 5] = [
         ("script", scripts),
         ("minimizer sweep", minimizer_sweeps),
         ("interval sweep", interval_sweeps),

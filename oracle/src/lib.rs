@@ -47,5 +47,6 @@ pub mod job_command;
 pub mod model;
 pub mod original;
 pub mod random;
+pub mod readable;
 pub mod shrink;
 pub mod vectors;

@@ -144,6 +144,8 @@ fn sketch(call: &SweepCall) -> QuerySketch {
     }
 }
 
+// One contig has one range.
+#[allow(clippy::single_range_in_vec_init)]
 fn empty_reference() -> ReferenceIndex {
     ReferenceIndex {
         minimizers: Vec::new(),
@@ -161,11 +163,11 @@ fn contig(call: &SweepCall) -> ReferenceIndex {
     match call.mode {
         Mode::Minimizer => {
             reference.minimizers = minimizers(call);
-            reference.contig_ranges = vec![0..reference.minimizers.len()];
+            reference.contig_ranges[0] = 0..reference.minimizers.len();
         }
         Mode::Interval => {
             reference.minmer_intervals = intervals(call);
-            reference.contig_minmer_ranges = vec![0..reference.minmer_intervals.len()];
+            reference.contig_minmer_ranges[0] = 0..reference.minmer_intervals.len();
         }
     }
     reference

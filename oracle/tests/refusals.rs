@@ -19,9 +19,11 @@ fn script() -> ScriptCall {
     }
 }
 
+type ScriptRow = (fn(&mut ScriptCall), Option<(u8, u32)>);
+
 #[test]
 fn scripts() {
-    let rows: Vec<(fn(&mut ScriptCall), Option<(u8, u32)>)> = vec![
+    let rows: Vec<ScriptRow> = vec![
         (|_| (), None),
         (|c| c.query = (0..4_097).collect(), Some((1, 0))),
         (|c| c.coords.clear(), Some((1, 0))),

@@ -46,7 +46,7 @@ fn sha256(message: &[u8]) -> String {
 }
 
 fn primes<const N: usize>() -> [u128; N] {
-    let is_prime = |n: &u128| (2..*n).all(|d| n % d != 0);
+    let is_prime = |n: &u128| (2..*n).all(|d| !n.is_multiple_of(d));
     let mut primes = (2..).filter(is_prime);
     std::array::from_fn(|_| primes.next().expect("primes do not end"))
 }

@@ -1,13 +1,15 @@
 -- `All` and the two orders by the index, and how often a number stands in a list: by recursion on the list. Assumes nothing.
-use mathlib.Core.Path.{_≡_, refl, ap, _∙_}
+use mathlib.Core.Path.{_≡_, refl, sym, ap, _∙_}
+use mathlib.Core.Logic.{⊎-elim, _≢_}
 use mathlib.Core.List.{List, [], _∷_, _++_}
 use Prim.Native.Nat.{ℕ, zero, suc, _+_, _≤_, _<_}
-use native.Mathlib.Nat.{le-of-suc-le-suc, not-suc-le-zero}
+use native.Mathlib.Nat.{le-of-suc-le-suc, not-suc-le-zero, eq-or-lt-of-le}
 use native.Mathlib.Numerals.{add-one}
 use native.Mathlib.Omega.{arith}
 use lib.ListN.{length, getD}
 use borrow.Author.Tests.{eq-eqb, ne-eqb}
-use Rattle.base.specs.Lists.{All, Asc, StrictAsc, hit, times}
+use Rattle.base.specs.Lists.{All, Ordered, Asc, StrictAsc, hit, times}
+use Rattle.base.proofs.Order.{eq-or-ne}
 
 -- All, by the index
 
@@ -28,42 +30,45 @@ pub all-append : (P : ℕ → Type 0) (xs ys : List ℕ) → All P xs → All P 
 all-append P [] ys a b = b
 all-append P (x ∷ xs) ys a b = (a .0, all-append P xs ys (a .1) b)
 
--- never down: each element is at most every later one, which it is if it is at most the next
+-- an order by the index, and by neighbours
+
+pub ordered-at : (R : ℕ → ℕ → Type 0) (xs : List ℕ) → Ordered R xs → (p q : ℕ) → p < q → q < length xs → R (getD xs p 0) (getD xs q 0)
+ordered-at R [] a p q h l = absurd (not-suc-le-zero l)
+ordered-at R (x ∷ xs) a p zero h l = absurd (not-suc-le-zero h)
+ordered-at R (x ∷ xs) a zero (suc q) h l = all-at (λ y. R x y) xs (a .0) q (le-of-suc-le-suc l)
+ordered-at R (x ∷ xs) a (suc p) (suc q) h l = ordered-at R xs (a .1) p q (le-of-suc-le-suc h) (le-of-suc-le-suc l)
+
+module _ (R : ℕ → ℕ → Type 0) (trans : (x y z : ℕ) → R x y → R y z → R x z) where
+  pub ordered-steps : (xs : List ℕ) → ((i : ℕ) → i + 1 < length xs → R (getD xs i 0) (getD xs (i + 1) 0)) → Ordered R xs
+  ordered-steps [] h = tt
+  ordered-steps (x ∷ []) h = (tt, tt)
+  ordered-steps (x ∷ y ∷ xs) h =
+      let rest : Ordered R (y ∷ xs) = ordered-steps (y ∷ xs) (λ i l. rw add-one (rw add-one at (h (suc i) (omega arith)))) in
+      let xy : R x y = h 0 (omega arith) in
+      ((xy, all-map (λ z. R y z) (λ z. R x z) (λ z yz. trans x y z xy yz) xs (rest .0)), rest)
+
+pub ordered-map : (R S : ℕ → ℕ → Type 0) → ((x y : ℕ) → R x y → S x y) → (xs : List ℕ) → Ordered R xs → Ordered S xs
+ordered-map R S f [] a = tt
+ordered-map R S f (x ∷ xs) a = (all-map (λ y. R x y) (λ y. S x y) (f x) xs (a .0), ordered-map R S f xs (a .1))
+
+-- never down
 
 pub asc-at : (xs : List ℕ) → Asc xs → (p q : ℕ) → p ≤ q → q < length xs → getD xs p 0 ≤ getD xs q 0
-asc-at [] a p q h l = absurd (not-suc-le-zero l)
-asc-at (x ∷ xs) a zero zero h l = omega arith
-asc-at (x ∷ xs) a zero (suc q) h l = all-at (λ y. x ≤ y) xs (a .0) q (le-of-suc-le-suc l)
-asc-at (x ∷ xs) a (suc p) zero h l = absurd (not-suc-le-zero h)
-asc-at (x ∷ xs) a (suc p) (suc q) h l = asc-at xs (a .1) p q (le-of-suc-le-suc h) (le-of-suc-le-suc l)
+asc-at xs a p q h l = ⊎-elim (λ (e : p ≡ q). rw e (omega arith)) (λ (m : p < q). ordered-at (λ x y. x ≤ y) xs a p q m l) (eq-or-lt-of-le h)
 
 pub asc-steps : (xs : List ℕ) → ((i : ℕ) → i + 1 < length xs → getD xs i 0 ≤ getD xs (i + 1) 0) → Asc xs
-asc-steps [] h = tt
-asc-steps (x ∷ []) h = (tt, tt)
-asc-steps (x ∷ y ∷ xs) h =
-    let rest : Asc (y ∷ xs) = asc-steps (y ∷ xs) (λ i l. rw add-one (rw add-one at (h (suc i) (omega arith)))) in
-    let xy : x ≤ y = h 0 (omega arith) in
-    ((xy, all-map (λ z. y ≤ z) (λ z. x ≤ z) (λ z yz. omega arith) xs (rest .0)), rest)
+asc-steps xs h = ordered-steps (λ x y. x ≤ y) (λ x y z l m. omega arith) xs h
 
--- strictly ascending, likewise
+-- strictly ascending
 
 pub strict-at : (xs : List ℕ) → StrictAsc xs → (p q : ℕ) → p < q → q < length xs → getD xs p 0 < getD xs q 0
-strict-at [] a p q h l = absurd (not-suc-le-zero l)
-strict-at (x ∷ xs) a p zero h l = absurd (not-suc-le-zero h)
-strict-at (x ∷ xs) a zero (suc q) h l = all-at (λ y. x < y) xs (a .0) q (le-of-suc-le-suc l)
-strict-at (x ∷ xs) a (suc p) (suc q) h l = strict-at xs (a .1) p q (le-of-suc-le-suc h) (le-of-suc-le-suc l)
+strict-at xs a p q h l = ordered-at (λ x y. x < y) xs a p q h l
 
 pub strict-steps : (xs : List ℕ) → ((i : ℕ) → i + 1 < length xs → getD xs i 0 < getD xs (i + 1) 0) → StrictAsc xs
-strict-steps [] h = tt
-strict-steps (x ∷ []) h = (tt, tt)
-strict-steps (x ∷ y ∷ xs) h =
-    let rest : StrictAsc (y ∷ xs) = strict-steps (y ∷ xs) (λ i l. rw add-one (rw add-one at (h (suc i) (omega arith)))) in
-    let xy : x < y = h 0 (omega arith) in
-    ((xy, all-map (λ z. y < z) (λ z. x < z) (λ z yz. omega arith) xs (rest .0)), rest)
+strict-steps xs h = ordered-steps (λ x y. x < y) (λ x y z l m. omega arith) xs h
 
 pub strict-asc : (xs : List ℕ) → StrictAsc xs → Asc xs
-strict-asc [] a = tt
-strict-asc (x ∷ xs) a = (all-map (λ y. x < y) (λ y. x ≤ y) (λ y l. omega arith) xs (a .0), strict-asc xs (a .1))
+strict-asc xs a = ordered-map (λ x y. x < y) (λ x y. x ≤ y) (λ x y l. omega arith) xs a
 
 -- how often a number stands there
 
@@ -85,3 +90,38 @@ pub times-above : (v : ℕ) (xs : List ℕ) → All (λ z. v < z) xs → times v
 unfolding times
 times-above v [] a = refl
 times-above v (x ∷ xs) a = let h = hit-other v x (omega arith) in let t = times-above v xs (a .1) in omega arith
+
+-- a number stands where it is an element
+
+pub times-at : (xs : List ℕ) (i : ℕ) → i < length xs → 0 < times (getD xs i 0) xs
+unfolding times
+times-at [] i l = absurd (not-suc-le-zero l)
+times-at (x ∷ xs) zero l = let h = hit-same x in omega arith
+times-at (x ∷ xs) (suc i) l = let t = times-at xs i (le-of-suc-le-suc l) in omega arith
+
+pub times-find : (v : ℕ) (xs : List ℕ) → 0 < times v xs → (i : ℕ) × (i < length xs) × (getD xs i 0 ≡ v)
+unfolding times
+times-find v [] h = absurd (not-suc-le-zero h)
+times-find v (x ∷ xs) h =
+    ⊎-elim (λ (e : v ≡ x). (0, omega arith, sym e))
+    (λ (n : v ≢ x).
+    let o = hit-other v x n in
+    let f = times-find v xs (omega arith) in
+    (suc (f .0), omega (arith, f .1), f .2))
+    (eq-or-ne v x)
+
+-- once at most in a strictly ascending list
+pub times-strict : (v : ℕ) (xs : List ℕ) → StrictAsc xs → times v xs ≤ 1
+unfolding times
+times-strict v [] a = omega arith
+times-strict v (x ∷ xs) a =
+    ⊎-elim
+    (λ (e : v ≡ x).
+    let h : hit v x ≡ 1 = ap (hit v) (sym e) ∙ hit-same v in
+    let t : times v xs ≡ 0 = times-above v xs (all-map (λ y. x < y) (λ y. v < y) (λ y l. omega arith) xs (a .0)) in
+    omega arith)
+    (λ (n : v ≢ x).
+    let o = hit-other v x n in
+    let t = times-strict v xs (a .1) in
+    omega arith)
+    (eq-or-ne v x)

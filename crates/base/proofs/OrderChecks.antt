@@ -1,8 +1,8 @@
 -- `orderOf` is the first place at which the order breaks, for any test of two neighbours; at `ltb` there is none exactly where the list ascends strictly, at
 -- `leb` exactly where it never descends. A loop that passes the list once finds it: what is left gives the answer of the whole. Assumes nothing.
 use Prim.Native.Nat.{ℕ, zero, suc, _+_, _-_, _<_, _≤_}
-use mathlib.Core.Path.{_≡_, refl, sym, ap, _∙_}
-use mathlib.Core.Logic.{_⊎_, inl, inr, ⊎-elim}
+use mathlib.Core.Path.{_≡_, refl, sym, _∙_}
+use mathlib.Core.Logic.{⊎-elim}
 use mathlib.Core.List.{List, [], _∷_}
 use mathlib.Core.Bool.{Bool, true, false}
 use native.Mathlib.Nat.{not-suc-le-zero}
@@ -11,7 +11,7 @@ use native.Mathlib.Omega.{arith}
 use lib.Dec.{ltb, leb}
 use lib.ListN.{length, getD, drop, drop-of-length-le}
 use lib.Seq.{drop-cons}
-use borrow.Author.Tests.{ltb-true, leb-true, lt-ltb, le-leb}
+use borrow.Author.Tests.{ltb-true, leb-true, lt-ltb, le-ltb, le-leb, lt-leb}
 use Rattle.base.specs.Pick.{pick}
 use Rattle.base.specs.Lists.{Asc, StrictAsc}
 use Rattle.base.specs.OrderChecks.{orderFrom, orderOf, FirstWrong}
@@ -51,12 +51,12 @@ module _ (ok : ℕ → ℕ → Bool) where
 module _ (ok : ℕ → ℕ → Bool) where
   pub order-first : (xs : List ℕ) → FirstWrong ok xs (orderOf ok xs)
   unfolding orderOf
-  order-first [] = record { within = omega arith; second = λ l. l; before = λ k l. absurd (omega arith); wrong = λ k e l. absurd (not-suc-le-zero l) }
+  order-first [] = record { within = omega arith; not-first = λ l. l; before = λ k l. absurd (omega arith); wrong = λ k e l. absurd (not-suc-le-zero l) }
   order-first (x ∷ xs) =
       let r = passed ok 1 x xs in
       record {
         within = omega (arith, r .is, r .within);
-        second = λ l. omega (arith, r .is);
+        not-first = λ l. omega (arith, r .is);
         before = λ k l. rw (add-one k) (r .before k (omega (arith, r .is)));
         wrong = λ k e l.
             let d : r .d ≡ k = omega (arith, r .is) in
@@ -71,7 +71,7 @@ module _ (ok : ℕ → ℕ → Bool) where
         differ : r < s → ⊥
         differ l =
             let in-list : r < length xs = omega (arith, b .within) in
-            let late : 0 < r = a .second (omega arith) in
+            let late : 0 < r = a .not-first (omega arith) in
             let step : r ≡ (r - 1) + 1 = omega arith in
             let good = b .before (r - 1) (omega arith) in
             let bad = a .wrong (r - 1) step in-list in
@@ -90,7 +90,7 @@ module _ (ok : ℕ → ℕ → Bool) where
 
     pub all-order : ((k : ℕ) → k + 1 < length xs → ok (getD xs k 0) (getD xs (k + 1) 0) ≡ true) → orderOf ok xs ≡ length xs
     all-order h =
-        sym (order-unique (length xs) (record { within = omega arith; second = λ l. l; before = h; wrong = λ k e l. absurd (omega arith) }))
+        sym (order-unique (length xs) (record { within = omega arith; not-first = λ l. l; before = h; wrong = λ k e l. absurd (omega arith) }))
 
 -- The two orders of the calls.
 module _ (xs : List ℕ) where
@@ -140,3 +140,17 @@ module _ {ok : ℕ → ℕ → Bool} {xs : List ℕ} {n p i : ℕ} (c : Checking
   checking-end l =
       let h : length xs ≤ i = omega arith in
       sym (c .left ∙ rw (drop-of-length-le xs h))
+
+-- The same by numbers: strictly ascending, and never down.
+module _ {xs : List ℕ} {n p i : ℕ} where
+  pub strict-pass : Checking ltb xs n p i → i < n → p < getD xs i 0 → Checking ltb xs n (getD xs i 0) (i + 1)
+  strict-pass c l h = checking-step c l (lt-ltb p (getD xs i 0) h)
+
+  pub strict-stop : Checking ltb xs n p i → i < n → getD xs i 0 ≤ p → i ≡ orderOf ltb xs
+  strict-stop c l h = checking-stop c l (le-ltb p (getD xs i 0) h)
+
+  pub asc-pass : Checking leb xs n p i → i < n → p ≤ getD xs i 0 → Checking leb xs n (getD xs i 0) (i + 1)
+  asc-pass c l h = checking-step c l (le-leb p (getD xs i 0) h)
+
+  pub asc-stop : Checking leb xs n p i → i < n → getD xs i 0 < p → i ≡ orderOf leb xs
+  asc-stop c l h = checking-stop c l (lt-leb p (getD xs i 0) h)

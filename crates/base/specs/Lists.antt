@@ -9,15 +9,18 @@ abbrev pub All : (ℕ → Type 0) → List ℕ → Type 0
 All P [] = Unit {0}
 All P (x ∷ xs) = P x × All P xs
 
+-- R holds between each element and every later one
+abbrev pub Ordered : (ℕ → ℕ → Type 0) → List ℕ → Type 0
+Ordered R [] = Unit {0}
+Ordered R (x ∷ xs) = All (λ y. R x y) xs × Ordered R xs
+
 -- each element is at most every later one
 abbrev pub Asc : List ℕ → Type 0
-Asc [] = Unit {0}
-Asc (x ∷ xs) = All (λ y. x ≤ y) xs × Asc xs
+Asc xs = Ordered (λ x y. x ≤ y) xs
 
 -- each element is below every later one
 abbrev pub StrictAsc : List ℕ → Type 0
-StrictAsc [] = Unit {0}
-StrictAsc (x ∷ xs) = All (λ y. x < y) xs × StrictAsc xs
+StrictAsc xs = Ordered (λ x y. x < y) xs
 
 -- 1 where x is v, else 0
 unfoldable pub hit : ℕ → ℕ → ℕ

@@ -16,9 +16,10 @@ unfoldable pub orderOf : (ℕ → ℕ → Bool) → List ℕ → ℕ
 orderOf ok [] = 0
 orderOf ok (x ∷ xs) = orderFrom ok 1 x xs
 
--- what such an index is, by neighbours: all before it are ok, and it is not, unless it is the length; one r alone is such (`order-unique`)
+-- what such an index r is, by neighbours: the first element is never wrong, each before r is ok, and the one at r is not, unless r is the length. The law
+-- `order-unique` says that `orderOf` is the one such r
 pub record FirstWrong (ok : ℕ → ℕ → Bool) (xs : List ℕ) (r : ℕ) : Type 0 where
   pub within : r ≤ length xs
-  pub second : 0 < length xs → 0 < r
+  pub not-first : 0 < length xs → 0 < r
   pub before : (k : ℕ) → k + 1 < r → ok (getD xs k 0) (getD xs (k + 1) 0) ≡ true
   pub wrong : (k : ℕ) → r ≡ k + 1 → r < length xs → ok (getD xs k 0) (getD xs (k + 1) 0) ≡ false

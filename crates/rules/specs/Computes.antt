@@ -2,7 +2,6 @@
 use Prim.Native.Nat.{ℕ}
 use mathlib.Core.List.{flatten}
 use lib.Ieee.{ofBits, lt}
-use Rattle.base.specs.Lists.{hit, times}
 use Rattle.base.specs.OrderChecks.{orderFrom, orderOf}
 use Rattle.base.specs.Pick.{pick}
 use Rattle.base.specs.Sort.{insert, sortOf}
@@ -25,7 +24,6 @@ use Rattle.rules.specs.Calls.{minimizerPremises, intervalPremises, sweep
 
 unfoldable pub computes : ℕ
 unfolding flatten ofBits lt
-    hit times
     orderFrom orderOf
     pick
     insert sortOf

@@ -66,13 +66,13 @@ abbrev pub scriptEdge : Script
 scriptEdge = record {
   query = 20 ∷ 40 ∷ [];
   coords = 10 ∷ 20 ∷ 40 ∷ [];
-  indexes = 2 ∷ 1 ∷ 0 ∷ 2 ∷ 0 ∷ 1 ∷ 1 ∷ 1 ∷ 1 ∷ 1 ∷ [];
-  kinds = 1 ∷ 1 ∷ 1 ∷ 0 ∷ 0 ∷ 0 ∷ 0 ∷ 1 ∷ 1 ∷ 0 ∷ [];
+  indexes = 2 ∷ 1 ∷ 0 ∷ 2 ∷ 0 ∷ 1 ∷ 1 ∷ 1 ∷ 1 ∷ 1 ∷ 2 ∷ 2 ∷ [];
+  kinds = 1 ∷ 1 ∷ 1 ∷ 0 ∷ 0 ∷ 0 ∷ 0 ∷ 1 ∷ 1 ∷ 0 ∷ 1 ∷ 0 ∷ [];
 }
 
--- 2/1, 2/2, 1/1, 1/1, 2/1, 2/0, 2/0, 2/1, 2/1, 2/1
+-- 2/1, 2/2, 1/1, 1/1, 2/1, 2/0, 2/0, 2/1, 2/1, 2/1, 2/2, 2/1
 abbrev pub looksEdge : List ℕ
-looksEdge = 2 ∷ 1 ∷ 2 ∷ 2 ∷ 1 ∷ 1 ∷ 1 ∷ 1 ∷ 2 ∷ 1 ∷ 2 ∷ 0 ∷ 2 ∷ 0 ∷ 2 ∷ 1 ∷ 2 ∷ 1 ∷ 2 ∷ 1 ∷ []
+looksEdge = 2 ∷ 1 ∷ 2 ∷ 2 ∷ 1 ∷ 1 ∷ 1 ∷ 1 ∷ 2 ∷ 1 ∷ 2 ∷ 0 ∷ 2 ∷ 0 ∷ 2 ∷ 1 ∷ 2 ∷ 1 ∷ 2 ∷ 1 ∷ 2 ∷ 2 ∷ 2 ∷ 1 ∷ []
 
 -- the only start is range end, and the last item lies past it by W or more
 abbrev pub caseLast : Sweep

@@ -61,7 +61,7 @@ fn ends(random: &mut Random, starts: &[u32], widest: u64) -> Vec<u32> {
     starts.iter().map(&mut end).collect()
 }
 
-/// The hits cut into at most `most` groups, empty ones among them.
+/// The hits cut into at most `most` groups, empty ones among them; now and then into just as many.
 fn groups_of(random: &mut Random, hits: u64, most: u64) -> Vec<u32> {
     let mut groups = Vec::new();
     let mut left = hits;
@@ -71,8 +71,11 @@ fn groups_of(random: &mut Random, hits: u64, most: u64) -> Vec<u32> {
         groups.push(length as u32);
         left -= length;
     }
-    if left > 0 || random.once_in(2) {
+    if left > 0 {
         groups.push(left as u32);
+    }
+    if random.once_in(4) {
+        groups.resize(most as usize, 0);
     }
     groups
 }

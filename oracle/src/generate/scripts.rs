@@ -34,13 +34,15 @@ pub fn script(random: &mut Random, size: Size) -> ScriptCall {
 fn shape(random: &mut Random, size: Size) -> Shape {
     let (coords, query, steps) = match size {
         Size::Small => (random.within(1, 8), random.within(1, 4), random.below(17)),
+        // A wide and sparse union: the nearest set bit lies words, or summary words, away.
+        Size::Medium if random.once_in(2) => {
+            let coords = random.within(4_097, 16_000);
+            (coords, random.within(1, 4), random.below(60))
+        }
         Size::Medium => {
-            let coords = random.pick(&[70, 300, 4_200, 12_000]);
-            (
-                random.within(1, coords),
-                random.within(1, 64),
-                random.below(300),
-            )
+            let coords = random.pick(&[70, 300, 4_200]);
+            let coords = random.within(1, coords);
+            (coords, random.within(1, 64), random.below(300))
         }
         Size::Limit => return limit_shape(random),
     };

@@ -17,6 +17,7 @@ pub fn cases(random: &mut Random) -> Vec<ScriptCall> {
     cases.extend(spoilt(random, rich, FAULTS, 6));
     cases.extend((0..5).map(|_| drawn(random, 400, 600)));
     cases.push(drawn(random, 4_200, 500));
+    cases.extend([sparse(400), sparse(4_200)]);
     cases
 }
 
@@ -87,6 +88,18 @@ fn drawn(random: &mut Random, count: usize, steps: usize) -> ScriptCall {
     call.room.pivots += random.pick(&[0, 0, 4]);
     call.room.shared += random.pick(&[0, 0, 5]);
     call
+}
+
+/// Two query hashes far apart and hardly another active: the pivot goes over many empty words, forth and back, to the
+/// other query hash or to one between.
+fn sparse(count: u32) -> ScriptCall {
+    let coords: Vec<u64> = (0..u64::from(count)).collect();
+    let query = [10, u64::from(count) - 10];
+    let mut steps = Vec::new();
+    for far in [63, 64, 200, count / 2, count - 105, count - 104, count - 1] {
+        steps.extend([(far, 1), (5, 1), (5, 0), (far, 0), (5, 1), (5, 0)]);
+    }
+    script(&query, &coords, &steps)
 }
 
 const FAULTS: &[Fault<ScriptCall>] = &[

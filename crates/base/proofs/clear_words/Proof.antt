@@ -7,10 +7,10 @@ use Rattle.base.proofs.clear_words.Statement.{statement}
 use Rattle.base.proofs.clear_words.Tie as tie
 
 abbrev Inv-loop : tie.InvT-loop
-Inv-loop words₀ n i₀ words i = Clearing words₀ n words i
+Inv-loop words₀ n w₀ words w = Clearing words₀ n words w
 
 abbrev μ-loop : tie.MeasureT-loop
-μ-loop words₀ n i₀ words i = n - i
+μ-loop words₀ n w₀ words w = n - w
 
 loop-holds : tie.Need-loop-holds Inv-loop μ-loop
 loop-holds c = clearing-start (c .pre)
@@ -21,8 +21,8 @@ mul-words c = search needs
 slice-write-words : tie.Need-slice-write-words Inv-loop μ-loop
 slice-write-words c = omega (arith, clearing-length (c .before .loop .inv))
 
-add-i : tie.Need-add-i Inv-loop μ-loop
-add-i c = search needs
+add-w : tie.Need-add-w Inv-loop μ-loop
+add-w c = search needs
 
 loop-less : tie.Need-loop-less Inv-loop μ-loop
 loop-less c = search needs
@@ -45,7 +45,7 @@ clear-words-spec =
     loop-holds
     mul-words
     slice-write-words
-    add-i
+    add-w
     loop-less
     loop-again
     same-length

@@ -2,9 +2,8 @@
 use Prim.Native.Nat.{_-_}
 use native.Mathlib.Omega.{arith}
 use borrow.Author.Needs.{needs}
-use borrow.Author.Tests.{le-ltb, lt-ltb}
 use lib.Dec.{ltb}
-use Rattle.base.proofs.OrderChecks.{Checking, checking-none, checking-start, checking-step, checking-stop, checking-end}
+use Rattle.base.proofs.OrderChecks.{Checking, checking-none, checking-start, strict-pass, strict-stop, checking-end}
 use Rattle.base.proofs.first_not_above.Statement.{statement}
 use Rattle.base.proofs.first_not_above.Tie as tie
 
@@ -30,7 +29,7 @@ shared-slice-read-x : tie.Need-shared-slice-read-x Inv-loop μ-loop
 shared-slice-read-x c = search needs
 
 returns-2 : tie.Need-returns-2 Inv-loop μ-loop
-returns-2 c = checking-stop (c .before .before .before .loop .inv) (omega arith) (le-ltb _ _ (c .if2 .taken))
+returns-2 c = strict-stop (c .before .before .before .loop .inv) (omega arith) (omega arith)
 
 add-i : tie.Need-add-i Inv-loop μ-loop
 add-i c = search needs
@@ -39,7 +38,7 @@ loop-less : tie.Need-loop-less Inv-loop μ-loop
 loop-less c = search needs
 
 loop-again : tie.Need-loop-again Inv-loop μ-loop
-loop-again c = checking-step (c .before .before .before .loop .inv) (omega arith) (lt-ltb _ _ (c .if2 .left))
+loop-again c = strict-pass (c .before .before .before .loop .inv) (omega arith) (omega arith)
 
 returns-3 : tie.Need-returns-3 Inv-loop μ-loop
 returns-3 c = checking-end (c .before .loop .inv) (omega arith)

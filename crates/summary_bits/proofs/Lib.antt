@@ -1,0 +1,4 @@
+pub mod Number
+pub mod Words
+pub mod Kept
+pub mod Search
