@@ -7,6 +7,8 @@ import sys
 import workspace
 
 HERE = os.path.dirname(os.path.abspath(__file__))
+# The table of jobs is dear, and is asked only where these definitions are wrong.
+OF_JOBS = ("Limits", "Text", "Job", "Lines")
 
 
 def mutants():
@@ -15,6 +17,7 @@ def mutants():
 
 
 def verdict(top, file, old, new):
+    workspace.keep(top, "JobEdges", file in OF_JOBS)
     path = os.path.join(top, "crates", "rules", "specs", file + ".antt")
     text = open(path, encoding="utf-8").read()
     if text.count(old) != 1:
@@ -34,7 +37,7 @@ def main():
     chosen = mutants()
     first = int(sys.argv[1]) if len(sys.argv) > 1 else 0
     last = int(sys.argv[2]) if len(sys.argv) > 2 else len(chosen)
-    top = workspace.copy("mutants", tables=True)
+    top = workspace.copy("mutants%d" % first, tables=True)
     proved, said = workspace.check(top)
     if not proved:
         sys.exit("the definitions are not proved as they stand: " + said[-400:])

@@ -7,8 +7,8 @@ import re
 TOP = os.path.dirname(os.path.dirname(os.path.dirname(os.path.abspath(__file__))))
 SPECS = os.path.join(TOP, "crates", "rules", "specs")
 BASE = os.path.join(TOP, "crates", "base", "specs")
-# Files whose definitions no row computes with: the claims themselves, and this list.
-CLAIMS = ("Computes", "Examples", "Edges")
+# Files whose definitions no row computes with: this list, the tables, and the working forms that only proofs use.
+LEFT_OUT = ("Computes", "Examples", "Edges", "JobEdges", "Accepted", "Ranks")
 
 
 def modules(folder):
@@ -23,10 +23,10 @@ def declared(folder, module):
 
 
 def main():
-    texts = [open(os.path.join(SPECS, m + ".antt"), encoding="utf-8").read() for m in modules(SPECS) if m not in CLAIMS]
+    texts = [open(os.path.join(SPECS, m + ".antt"), encoding="utf-8").read() for m in modules(SPECS) if m not in LEFT_OUT]
     cited = sorted(set(re.findall(r"^use Rattle\.base\.specs\.([A-Z]\w*)\.\{", "\n".join(texts), re.M)))
     from_base = [(f"Rattle.base.specs.{m}", declared(BASE, m)) for m in cited if m != "declared"]
-    from_rules = [(f"Rattle.rules.specs.{m}", declared(SPECS, m)) for m in modules(SPECS) if m not in CLAIMS]
+    from_rules = [(f"Rattle.rules.specs.{m}", declared(SPECS, m)) for m in modules(SPECS) if m not in LEFT_OUT]
     used = [(m, names) for m, names in from_base + from_rules if names]
     lines = [
         "-- All definitions by which a row computes, named once: a proof by computing says `unfolding computes`. Written by oracle/antt/unfolding.py.",

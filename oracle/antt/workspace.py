@@ -5,7 +5,7 @@ import subprocess
 
 TOP = os.path.dirname(os.path.dirname(os.path.dirname(os.path.abspath(__file__))))
 TARGET = os.path.join(TOP, "target", "antt")
-TABLES = ("Examples", "Edges")
+TABLES = ("Examples", "Edges", "JobEdges")
 
 
 def copy(name, tables):
@@ -16,14 +16,23 @@ def copy(name, tables):
         left_out = shutil.ignore_patterns("must-fail", "proofs") if crate == "rules" else shutil.ignore_patterns("must-fail")
         shutil.copytree(os.path.join(TOP, "crates", crate), os.path.join(top, "crates", crate), ignore=left_out)
     write(top, "crates.txt", "base:\nrules: base\n")
-    if not tables:
-        specs = os.path.join(top, "crates", "rules", "specs")
-        for table in TABLES:
-            os.remove(os.path.join(specs, table + ".antt"))
-        lib = open(os.path.join(specs, "Lib.antt"), encoding="utf-8").read()
-        kept = [line for line in lib.split("\n") if line not in ["pub mod " + table for table in TABLES]]
-        write(specs, "Lib.antt", "\n".join(kept))
+    for table in TABLES:
+        keep(top, table, tables)
     return top
+
+
+def keep(top, table, wanted):
+    """Puts a table of rules into the workspace, or takes it out."""
+    specs = os.path.join(top, "crates", "rules", "specs")
+    path = os.path.join(specs, table + ".antt")
+    lib = open(os.path.join(specs, "Lib.antt"), encoding="utf-8").read().split("\n")
+    lines = [line for line in lib if line and line != "pub mod " + table]
+    if wanted:
+        shutil.copy(os.path.join(TOP, "crates", "rules", "specs", table + ".antt"), path)
+        lines.append("pub mod " + table)
+    elif os.path.exists(path):
+        os.remove(path)
+    write(specs, "Lib.antt", "\n".join(lines) + "\n")
 
 
 def write(folder, name, text):

@@ -1,7 +1,7 @@
 -- Wrong programs that no promise allows. Each is refuted at a row of the table: there the promise's answer, or a lent buffer, is a value
 -- that computes, and the wrong program's is another.
 use Prim.Native.Nat.{ℕ}
-use mathlib.Core.Path.{_≡_, refl, sym, ap, _∙_}
+use mathlib.Core.Path.{_≡_, sym, ap, _∙_}
 use mathlib.Core.Bool.{false}
 use mathlib.Core.List.{List, [], _∷_}
 use native.Mathlib.Omega.{arith}

@@ -16,7 +16,7 @@ use Rattle.rules.specs.Interval.{kmersPerStart, intervalsOf, isTaken, ta
 use Rattle.rules.specs.Place.{estimateAt, startOf, placeOf, settled, settledIn, noStats, minimizerEarly, minimizerStats, minimizerFrom, minimizerAnswer, minimizerByScoring, intervalEarly, intervalStats, intervalFrom, intervalAnswer, intervalByScoring}
 use Rattle.rules.specs.Finder.{kept, seedHits, keyOf, keyContig, keyAt, joins, joined, joinFrom, joinAll, keysOf, hitKeys, runRange, runRanges, minimizerFound, eventsOfHits, hitEvents, activeAfter, coveredTo, coveredFrom, covered, intervalFound}
 use Rattle.rules.specs.Checks.{orElse, minimizerInput, intervalInput, firstMissing, firstBadStep, scriptInput, minimizerFinderInput, intervalFinderInput}
-use Rattle.rules.specs.Refusals.{need, minimizerInputIn, minimizerVerdict, intervalInputIn, intervalVerdict, scriptVerdict, minimizerFinderVerdict, intervalFinderVerdict, sweepAnswerOf, scriptAnswerOf, finderAnswerOf, minimizerCall, intervalCall, scriptCall, minimizerFinderCall, intervalFinderCall, workLeft, outputLeft}
+use Rattle.rules.specs.Refusals.{need, minimizerInputIn, minimizerVerdict, intervalInputIn, intervalVerdict, scriptVerdict, minimizerFinderVerdict, intervalFinderVerdict, sweepAnswerOf, scriptAnswerOf, finderAnswerOf, minimizerCall, minimizerScored, intervalCall, intervalScored, scriptCall, minimizerFinderCall, intervalFinderCall, workLeft, outputLeft}
 use Rattle.rules.specs.Job.{fieldTable, unitOf, misplaced, fits, wrongValue, tooMany, faultBy, joinedData, modeOf, tagBefore, faultOf, afterEnd, lengthAt, fieldAt, isCut, readFrom, read, number, numberAt, unitsOf, units, jobOf}
 use Rattle.rules.specs.Lines.{digits, decimal, hexDigit, hex, line, countsLine, refusedLine, mappedLine, identityLine, answerLines, jobAnswer, linesOf, printed, linesOfFailed, printedAfterFailure, said}
 use Rattle.rules.specs.Told.{toldRefused, toldDone, toldSweep, toldScript, toldFinder, toldLooks, toldCandidates}
@@ -38,7 +38,7 @@ unfolding flatten ofBits lt
     estimateAt startOf placeOf settled settledIn noStats minimizerEarly minimizerStats minimizerFrom minimizerAnswer minimizerByScoring intervalEarly intervalStats intervalFrom intervalAnswer intervalByScoring
     kept seedHits keyOf keyContig keyAt joins joined joinFrom joinAll keysOf hitKeys runRange runRanges minimizerFound eventsOfHits hitEvents activeAfter coveredTo coveredFrom covered intervalFound
     orElse minimizerInput intervalInput firstMissing firstBadStep scriptInput minimizerFinderInput intervalFinderInput
-    need minimizerInputIn minimizerVerdict intervalInputIn intervalVerdict scriptVerdict minimizerFinderVerdict intervalFinderVerdict sweepAnswerOf scriptAnswerOf finderAnswerOf minimizerCall intervalCall scriptCall minimizerFinderCall intervalFinderCall workLeft outputLeft
+    need minimizerInputIn minimizerVerdict intervalInputIn intervalVerdict scriptVerdict minimizerFinderVerdict intervalFinderVerdict sweepAnswerOf scriptAnswerOf finderAnswerOf minimizerCall minimizerScored intervalCall intervalScored scriptCall minimizerFinderCall intervalFinderCall workLeft outputLeft
     fieldTable unitOf misplaced fits wrongValue tooMany faultBy joinedData modeOf tagBefore faultOf afterEnd lengthAt fieldAt isCut readFrom read number numberAt unitsOf units jobOf
     digits decimal hexDigit hex line countsLine refusedLine mappedLine identityLine answerLines jobAnswer linesOf printed linesOfFailed printedAfterFailure said
     toldRefused toldDone toldSweep toldScript toldFinder toldLooks toldCandidates

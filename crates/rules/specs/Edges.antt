@@ -1,15 +1,12 @@
--- Rows of our own, at the edges: where demand 3's premises hold, each refusal with its place, needs exactly met and one short, every way to none,
--- and each refusal of a job file.
-use Prim.Native.Nat.{ℕ, suc, _+_}
+-- Rows of our own, at the edges: where demand 3's premises hold, each refusal with its place, needs exactly met and one short, every way to none.
+use Prim.Native.Nat.{ℕ}
 use mathlib.Core.Path.{_≡_, refl}
-use mathlib.Core.Bool.{Bool, true, false}
-use mathlib.Core.List.{List, [], _∷_, _++_, map}
-use lib.ListN.{length, take, drop, set, replicate}
+use mathlib.Core.Bool.{true, false}
+use mathlib.Core.List.{List, [], _∷_, map}
+use lib.ListN.{length, replicate}
 use lib.Ieee.{Float, binary64, ofBits, nan}
 use Rattle.base.specs.declared.Verdict.{Verdict}
 use Rattle.base.specs.declared.Verdict.the-variants.{Fine}
-use Rattle.rules.specs.Lists.{upFrom}
-use Rattle.rules.specs.Text.{text}
 use Rattle.rules.specs.Script.{Script, looks}
 use Rattle.rules.specs.Moves.{looksByMoves}
 use Rattle.rules.specs.Sweep.{Sweep}
@@ -17,11 +14,10 @@ use Rattle.rules.specs.Place.{minimizerAnswer, minimizerByScoring, inter
 use Rattle.rules.specs.Finder.{Finder, seedHits, minimizerFound, intervalFound}
 use Rattle.rules.specs.Checks.{refuse, minimizerSizes, intervalSizes, sweepOrders, sweepTable, sweepNeeds, keysNeed, scriptSizes, scriptOrders, scriptMembers, scriptNeeds, minimizerFinderSizes, minimizerFinderLengths, intervalFinderSizes, intervalFinderLengths, finderNeeds, endKeysNeed}
 use Rattle.rules.specs.Refusals.{SweepRoom, ScriptRoom, FinderRoom, minimizerCall, intervalCall, scriptCall, minimizerFinderCall, intervalFinderCall, workLeft, outputLeft}
-use Rattle.rules.specs.Lines.{said}
-use Rattle.rules.specs.Told.{Told, toldDone, toldSweep, toldScript, toldFinder, toldLooks, toldCandidates}
+use Rattle.rules.specs.Told.{toldDone, toldSweep, toldScript, toldFinder, toldLooks, toldCandidates}
 use Rattle.rules.specs.Calls.{minimizerPremises, intervalPremises}
 use Rattle.rules.specs.Computes.{computes}
-use Rattle.rules.specs.Examples.{Row, says, prints, list, placed, nothing, refused, scriptA, emptyScript, f0, f50, f100, sweepOf, caseB, caseC, caseD, caseE, caseF, caseG, jobB2}
+use Rattle.rules.specs.Examples.{Row, says, list, placed, nothing, refused, scriptA, emptyScript, f0, f50, f100, sweepOf, caseB, caseC, caseD, caseE, caseF, caseG}
 
 -- the paper's sweep with another fragment, query and table
 abbrev pub sweepWith : (kmer window length : ℕ) (query hashes starts ends : List ℕ) (from to : ℕ) (identities uppers : List Float) (minimum : Float) → Sweep
@@ -70,13 +66,13 @@ abbrev pub scriptEdge : Script
 scriptEdge = record {
   query = 20 ∷ 40 ∷ [];
   coords = 10 ∷ 20 ∷ 40 ∷ [];
-  indexes = 2 ∷ 1 ∷ 0 ∷ 2 ∷ 0 ∷ 1 ∷ 1 ∷ 1 ∷ 1 ∷ 1 ∷ [];
-  kinds = 1 ∷ 1 ∷ 1 ∷ 0 ∷ 0 ∷ 0 ∷ 0 ∷ 1 ∷ 1 ∷ 0 ∷ [];
+  indexes = 2 ∷ 1 ∷ 0 ∷ 2 ∷ 0 ∷ 1 ∷ 1 ∷ 1 ∷ 1 ∷ 1 ∷ 2 ∷ 2 ∷ [];
+  kinds = 1 ∷ 1 ∷ 1 ∷ 0 ∷ 0 ∷ 0 ∷ 0 ∷ 1 ∷ 1 ∷ 0 ∷ 1 ∷ 0 ∷ [];
 }
 
--- 2/1, 2/2, 1/1, 1/1, 2/1, 2/0, 2/0, 2/1, 2/1, 2/1
+-- 2/1, 2/2, 1/1, 1/1, 2/1, 2/0, 2/0, 2/1, 2/1, 2/1, 2/2, 2/1
 abbrev pub looksEdge : List ℕ
-looksEdge = 2 ∷ 1 ∷ 2 ∷ 2 ∷ 1 ∷ 1 ∷ 1 ∷ 1 ∷ 2 ∷ 1 ∷ 2 ∷ 0 ∷ 2 ∷ 0 ∷ 2 ∷ 1 ∷ 2 ∷ 1 ∷ 2 ∷ 1 ∷ []
+looksEdge = 2 ∷ 1 ∷ 2 ∷ 2 ∷ 1 ∷ 1 ∷ 1 ∷ 1 ∷ 2 ∷ 1 ∷ 2 ∷ 0 ∷ 2 ∷ 0 ∷ 2 ∷ 1 ∷ 2 ∷ 1 ∷ 2 ∷ 1 ∷ 2 ∷ 2 ∷ 2 ∷ 1 ∷ []
 
 -- the only start is range end, and the last item lies past it by W or more
 abbrev pub caseLast : Sweep
@@ -102,15 +98,33 @@ caseBetween = sweepOf (40 ∷ 20 ∷ 30 ∷ []) (0 ∷ 5 ∷ 5 ∷ []) (9 ∷ 9 
 abbrev pub f150 : Float
 f150 = ofBits binary64 0x4062c00000000000
 
--- Premises. B1, B2, a tie, equal positions that are not local: inside. C, W below 1, no query hash: outside.
-pub minimizer-inside : map minimizerPremises (caseB 10 ∷ caseB 11 ∷ caseTie ∷ sweepOf hashesB (0 ∷ 0 ∷ 8 ∷ 12 ∷ 20 ∷ []) [] 1 11 ∷ caseC ∷ fragmentB 3 2 3 ∷ queriedB [] ∷ []) ≡ true ∷ true ∷ true ∷ true ∷ false ∷ false ∷ false ∷ []
+-- B2 from 1 on, with two equal positions at 0, which are not local
+abbrev pub caseElsewhere : Sweep
+caseElsewhere = sweepOf hashesB (0 ∷ 0 ∷ 8 ∷ 12 ∷ 20 ∷ []) [] 1 11
+
+-- E with an empty interval 20[0,0), which is not taken
+abbrev pub caseUntaken : Sweep
+caseUntaken = sweepOf (20 ∷ 30 ∷ []) (0 ∷ 2 ∷ []) (0 ∷ 9 ∷ []) 3 5
+
+-- Demand 3's premises hold of B1, B2, a tie, and equal positions that are not local;
+pub minimizer-inside : map minimizerPremises (caseB 10 ∷ caseB 11 ∷ caseTie ∷ caseElsewhere ∷ []) ≡ true ∷ true ∷ true ∷ true ∷ []
 unfolding computes
 minimizer-inside = refl
 
--- D, E, an empty interval that is not taken: inside. F and a reversed range, settled as none before; G: outside.
-pub interval-inside : map intervalPremises (caseD ∷ caseE ∷ sweepOf (20 ∷ 30 ∷ []) (0 ∷ 2 ∷ []) (0 ∷ 9 ∷ []) 3 5 ∷ caseF ∷ sweepOf (30 ∷ []) (2 ∷ []) (9 ∷ []) 5 3 ∷ caseG ∷ []) ≡ true ∷ true ∷ true ∷ false ∷ false ∷ false ∷ []
+-- not of C, of W below 1, of no query hash;
+pub minimizer-outside : map minimizerPremises (caseC ∷ fragmentB 3 2 3 ∷ queriedB [] ∷ []) ≡ false ∷ false ∷ false ∷ []
+unfolding computes
+minimizer-outside = refl
+
+-- of D, E, and an empty interval that is not taken;
+pub interval-inside : map intervalPremises (caseD ∷ caseE ∷ caseUntaken ∷ []) ≡ true ∷ true ∷ true ∷ []
 unfolding computes
 interval-inside = refl
+
+-- not of F and a reversed range, which are none before scoring, nor of G
+pub interval-outside : map intervalPremises (caseF ∷ caseOne 2 9 5 3 ∷ caseG ∷ []) ≡ false ∷ false ∷ false ∷ []
+unfolding computes
+interval-outside = refl
 
 -- a row of a check: what it says, and what it should say
 pub record Judged : Type 0 where
@@ -368,15 +382,15 @@ answers =
     -- it ends within the range; at range end. The mean of 4 and 5 is rounded down
     says (toldSweep (intervalAnswer (caseOne 0 6 4 9))) (placed 4 13 1 6 2 1 f50) ∷
     says (toldSweep (intervalByScoring (caseOne 0 6 4 9))) (placed 4 13 1 6 2 1 f50) ∷
-    says (toldSweep (intervalAnswer (caseOne 0 6 5 6))) (placed 5 14 1 2 2 1 f50) ∷
+    says (toldSweep (intervalAnswer (caseOne 0 6 4 6))) (placed 4 13 1 3 2 1 f50) ∷
     -- events at one position
     says (toldSweep (intervalAnswer caseMeet)) (placed 5 14 1 5 2 2 f50) ∷
     says (toldSweep (intervalByScoring caseMeet)) (placed 5 14 1 5 2 2 f50) ∷
     says (toldSweep (intervalAnswer caseBetween)) (placed 5 14 1 5 3 3 f50) ∷
     says (toldSweep (intervalByScoring caseBetween)) (placed 5 14 1 5 3 3 f50) ∷
     -- finders: a group as long as the threshold is dropped; threshold 0 keeps none; ranges by contig, then start
-    says (list (toldCandidates (minimizerFound (finderWith (0 ∷ 0 ∷ 0 ∷ []) (5 ∷ 8 ∷ 9 ∷ []) [] (2 ∷ 1 ∷ []) 2 1)))) (list (0 ∷ 0 ∷ 9 ∷ [])) ∷
-    says (list (seedHits (finderWith (0 ∷ 0 ∷ 0 ∷ []) (5 ∷ 8 ∷ 9 ∷ []) [] (2 ∷ 1 ∷ []) 2 1) ∷ [])) (list (1 ∷ [])) ∷
+    says (list (toldCandidates (minimizerFound (finderWith (0 ∷ 0 ∷ 0 ∷ []) (50 ∷ 80 ∷ 9 ∷ []) [] (2 ∷ 1 ∷ []) 2 1)))) (list (0 ∷ 0 ∷ 9 ∷ [])) ∷
+    says (list (seedHits (finderWith (0 ∷ 0 ∷ 0 ∷ []) (50 ∷ 80 ∷ 9 ∷ []) [] (2 ∷ 1 ∷ []) 2 1) ∷ [])) (list (1 ∷ [])) ∷
     says (list (toldCandidates (minimizerFound (finderWith (0 ∷ []) (5 ∷ []) [] (1 ∷ []) 0 1)))) (list []) ∷
     says (list (toldCandidates (minimizerFound (finderWith (2 ∷ 1 ∷ []) (5 ∷ 90 ∷ []) [] (2 ∷ []) 9 1)))) (list (1 ∷ 81 ∷ 90 ∷ 2 ∷ 0 ∷ 5 ∷ [])) ∷
     -- a run lies in one contig
@@ -391,86 +405,3 @@ answers =
 pub answers-hold : map (λ (r : Row). r .given) answers ≡ map (λ (r : Row). r .wanted) answers
 unfolding answers computes
 answers-hold = refl
-
--- the first n bytes of B2's job, then others
-abbrev pub jobTo : ℕ → List ℕ → List ℕ
-jobTo n bytes = take n jobB2 ++ bytes
-
--- the job with others put in at n
-abbrev pub jobIn : ℕ → List ℕ → List ℕ
-jobIn n bytes = take n jobB2 ++ (bytes ++ drop n jobB2)
-
--- the job with one byte changed
-abbrev pub jobWith : ℕ → ℕ → List ℕ
-jobWith at byte = set jobB2 at byte
-
--- a row of the program where reading failed after these bytes
-abbrev pub fails : List ℕ → List ℕ → Row
-fails job lines = record { given = list (said true job); wanted = list lines }
-
--- Jobs. B2's fields stand at 0 (01), 4 (02), 8 (03), 31 (05), 50 (06), 113 (07) and 164 (FF).
-pub jobs : List Row
-jobs =
-    -- 11: a byte too long
-    prints (replicate 65536 0) "refused 11 0\n" ∷
-    -- 12: empty; no FF; a header cut; data cut; FF's length cut
-    prints [] "refused 12 0\n" ∷
-    prints (jobTo 164 []) "refused 12 164\n" ∷
-    prints (jobTo 52 []) "refused 12 50\n" ∷
-    prints (jobTo 112 []) "refused 12 50\n" ∷
-    prints (jobTo 166 []) "refused 12 164\n" ∷
-    -- 13: unknown tag; 0 is one
-    prints (jobIn 164 (0x08 ∷ 0x00 ∷ 0x00 ∷ [])) "refused 13 164\n" ∷
-    prints (jobWith 0 0) "refused 13 0\n" ∷
-    -- 14: FF first; 06 missing before FF, and before 07; 05 repeated; 02 after 03
-    prints (0xff ∷ 0x00 ∷ 0x00 ∷ []) "refused 14 0\n" ∷
-    prints (jobTo 50 (0xff ∷ 0x00 ∷ 0x00 ∷ [])) "refused 14 50\n" ∷
-    prints (jobTo 50 (drop 113 jobB2)) "refused 14 50\n" ∷
-    prints (jobIn 50 (0x05 ∷ 0x00 ∷ 0x00 ∷ [])) "refused 14 50\n" ∷
-    prints (jobIn 31 (0x02 ∷ 0x01 ∷ 0x00 ∷ 0x00 ∷ [])) "refused 14 31\n" ∷
-    -- 15: version 2; mode 2; settings of 19 bytes; 60 bytes are no whole intervals; a byte in FF
-    prints (jobWith 3 2) "refused 15 0\n" ∷
-    prints (jobWith 7 2) "refused 15 4\n" ∷
-    prints (jobWith 9 19) "refused 15 8\n" ∷
-    prints (jobWith 7 1) "refused 15 50\n" ∷
-    prints (jobTo 164 (0xff ∷ 0x01 ∷ 0x00 ∷ 0x00 ∷ [])) "refused 15 164\n" ∷
-    -- 16: 513 query hashes; 2,049 items, and 2,048 in one field and one in the next; 514 estimates
-    prints (jobTo 31 (0x05 ∷ 0x08 ∷ 0x10 ∷ replicate 4104 0)) "refused 16 31\n" ∷
-    prints (jobTo 50 (0x06 ∷ 0x0c ∷ 0x60 ∷ replicate 24588 0)) "refused 16 50\n" ∷
-    prints (jobTo 50 (0x06 ∷ 0x00 ∷ 0x60 ∷ (replicate 24576 0 ++ (0x06 ∷ 0x0c ∷ 0x00 ∷ replicate 12 0)))) "refused 16 24629\n" ∷
-    prints (jobTo 113 (0x07 ∷ 0x20 ∷ 0x20 ∷ replicate 8224 0)) "refused 16 113\n" ∷
-    -- 512 query hashes, 2,048 items, 513 estimates: no file refusal (their bytes are all 0)
-    prints (jobTo 31 (0x05 ∷ 0x00 ∷ 0x10 ∷ (replicate 4096 0 ++ drop 50 jobB2))) "refused 4 1\n" ∷
-    prints (jobTo 50 (0x06 ∷ 0x00 ∷ 0x60 ∷ (replicate 24576 0 ++ drop 113 jobB2))) "none\ncounts 0 3 2048\n" ∷
-    prints (jobTo 113 (0x07 ∷ 0x10 ∷ 0x20 ∷ (replicate 8208 0 ++ (0xff ∷ 0x00 ∷ 0x00 ∷ [])))) "mapped 8 17 2 2\nidentity 0000000000000000 0000000000000000\ncounts 5 4 5\n" ∷
-    -- 17: a byte after FF
-    prints (jobTo 167 (0x00 ∷ [])) "refused 17 167\n" ∷
-    -- within one field: 12 before 13, 13 before 14, 14 before 15, 15 before 16
-    prints (jobTo 164 (0x08 ∷ 0x01 ∷ 0x00 ∷ [])) "refused 12 164\n" ∷
-    prints (jobIn 164 (0x00 ∷ 0x00 ∷ 0x00 ∷ [])) "refused 13 164\n" ∷
-    prints (jobIn 4 (0x01 ∷ 0x02 ∷ 0x00 ∷ 0x01 ∷ 0x01 ∷ [])) "refused 14 4\n" ∷
-    prints (jobTo 31 (0x05 ∷ 0x09 ∷ 0x10 ∷ replicate 4105 0)) "refused 15 31\n" ∷
-    -- then the library's checks: k-mer 0, window 0, query 20, 20, positions 0, 4, 3, two estimates
-    prints (jobWith 11 0) "refused 2 0\n" ∷
-    prints (jobWith 15 0) "refused 2 0\n" ∷
-    prints (jobWith 42 20) "refused 4 1\n" ∷
-    prints (jobWith 85 3) "refused 5 2\n" ∷
-    prints (jobTo 113 (0x07 ∷ 0x20 ∷ 0x00 ∷ (replicate 32 0 ++ (0xff ∷ 0x00 ∷ 0x00 ∷ [])))) "refused 7 0\n" ∷
-    -- an empty 06 joined to another; an empty contig; a minimum identity of 150
-    prints (jobIn 50 (0x06 ∷ 0x00 ∷ 0x00 ∷ [])) "mapped 8 17 2 2\nidentity 4059000000000000 4059000000000000\ncounts 5 4 5\n" ∷
-    prints (jobTo 50 (0x06 ∷ 0x00 ∷ 0x00 ∷ drop 113 jobB2)) "none\ncounts 0 0 0\n" ∷
-    prints (jobIn 31 (0x04 ∷ 0x08 ∷ 0x00 ∷ 0x00 ∷ 0x00 ∷ 0x00 ∷ 0x00 ∷ 0x00 ∷ 0xc0 ∷ 0x62 ∷ 0x40 ∷ [])) "none\ncounts 5 4 5\n" ∷
-    -- a NaN's payload is printed as it stood
-    prints (set (set (set jobB2 148 1) 154 0xf8) 155 0x7f) "mapped 8 17 2 2\nidentity 7ff8000000000001 4059000000000000\ncounts 5 4 5\n" ∷
-    -- reading failed: the bytes' own refusal, or that a whole job was not seen to end
-    fails [] (text "refused 12 0\n") ∷
-    fails (jobTo 112 []) (text "refused 12 50\n") ∷
-    fails (jobWith 3 2) (text "refused 15 0\n") ∷
-    fails jobB2 (text "refused 12 167\n") ∷
-    fails (jobTo 50 (0x06 ∷ 0x00 ∷ 0x00 ∷ drop 113 jobB2)) (text "refused 12 107\n") ∷
-    []
-
--- every job prints so
-pub jobs-hold : map (λ (r : Row). r .given) jobs ≡ map (λ (r : Row). r .wanted) jobs
-unfolding jobs computes
-jobs-hold = refl
