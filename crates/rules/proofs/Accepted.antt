@@ -14,7 +14,8 @@ use Rattle.base.specs.declared.Refusal.{Refusal}
 use Rattle.base.proofs.OrderChecks.{order-strict, order-asc}
 use Rattle.rules.specs.Lists.{member}
 use Rattle.rules.specs.Limits.{insertKind}
-use Rattle.rules.specs.Checks.{orElse, firstMissing, firstBadStep, minimizerInput, intervalInput, sweepNeeds, keysNeed, scriptInput, scriptMembers, scriptNeeds, minimizerFinderInput, intervalFinderInput, finderNeeds, endKeysNeed}
+use Rattle.base.specs.Verdicts.{orElse}
+use Rattle.rules.specs.Checks.{firstMissing, firstBadStep, minimizerInput, intervalInput, sweepNeeds, keysNeed, scriptInput, scriptMembers, scriptNeeds, minimizerFinderInput, intervalFinderInput, finderNeeds, endKeysNeed}
 use Rattle.rules.specs.Accepted.{SweepAccepted, SweepFits, ScriptAccepted, ScriptFits, FinderAccepted, FinderFits}
 
 -- a refusal is not Fine

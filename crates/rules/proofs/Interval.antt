@@ -22,7 +22,8 @@ use Rattle.rules.specs.Sweep.{Sweep, best}
 use Rattle.rules.specs.Interval.{Interval, intervalsOf, isTaken, taken, coordsOf, hashesOf, kmersPerStart, eventAt, events, beginning, spans, scoredPositions}
 use Rattle.rules.specs.Place.{intervalEarly, intervalFrom, intervalAnswer, intervalByScoring}
 use Rattle.rules.specs.Limits.{queryLimit, itemLimit}
-use Rattle.rules.specs.Checks.{refuse, orElse, intervalSizes, sweepOrders, sweepTable, intervalInput, sweepNeeds, keysNeed}
+use Rattle.base.specs.Verdicts.{refuse, orElse}
+use Rattle.rules.specs.Checks.{intervalSizes, sweepOrders, sweepTable, intervalInput, sweepNeeds, keysNeed}
 use Rattle.rules.specs.Refusals.{SweepRoom, need, intervalInputIn, intervalVerdict, sweepAnswerOf, intervalCall}
 use Rattle.rules.specs.Calls.{intervalPremises}
 use Rattle.rules.proofs.Score.{cases, length-filter, member-all, member-union, number-fits, length-union}

@@ -7,19 +7,11 @@ use lib.ListN.{length}
 use lib.Dec.{ltb, leb, eqb}
 use Rattle.base.specs.Pick.{pick}
 use Rattle.base.specs.OrderChecks.{orderOf}
+use Rattle.base.specs.Verdicts.{refuse, orElse}
 use Rattle.base.specs.declared.Verdict.{Verdict}
-use Rattle.base.specs.declared.Verdict.the-variants.{Fine, No}
+use Rattle.base.specs.declared.Verdict.the-variants.{Fine}
 use Rattle.rules.specs.Lists.{member, sum}
 use Rattle.rules.specs.Limits.{queryLimit, itemLimit, groupLimit, stepLimit, coordLimit, minimumLimit, insertKind}
-
--- refused, with a number and a place
-abbrev pub refuse : ℕ → ℕ → Verdict
-refuse number place = No (record { number = number; place = place })
-
--- the first that refuses
-unfoldable pub orElse : Verdict → Verdict → Verdict
-orElse Fine w = w
-orElse (No r) w = No r
 
 -- ceil(n/64)
 abbrev pub ceil64 : ℕ → ℕ

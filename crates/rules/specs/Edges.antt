@@ -12,7 +12,8 @@ use Rattle.rules.specs.Moves.{looksByMoves}
 use Rattle.rules.specs.Sweep.{Sweep}
 use Rattle.rules.specs.Place.{minimizerAnswer, minimizerByScoring, intervalAnswer, intervalByScoring}
 use Rattle.rules.specs.Finder.{Finder, seedHits, minimizerFound, intervalFound}
-use Rattle.rules.specs.Checks.{refuse, minimizerSizes, intervalSizes, sweepOrders, sweepTable, sweepNeeds, keysNeed, scriptSizes, scriptOrders, scriptMembers, scriptNeeds, minimizerFinderSizes, minimizerFinderLengths, intervalFinderSizes, intervalFinderLengths, finderNeeds, endKeysNeed}
+use Rattle.base.specs.Verdicts.{refuse}
+use Rattle.rules.specs.Checks.{minimizerSizes, intervalSizes, sweepOrders, sweepTable, sweepNeeds, keysNeed, scriptSizes, scriptOrders, scriptMembers, scriptNeeds, minimizerFinderSizes, minimizerFinderLengths, intervalFinderSizes, intervalFinderLengths, finderNeeds, endKeysNeed}
 use Rattle.rules.specs.Refusals.{SweepRoom, ScriptRoom, FinderRoom, minimizerCall, intervalCall, scriptCall, minimizerFinderCall, intervalFinderCall, workLeft, outputLeft}
 use Rattle.rules.specs.Told.{toldDone, toldSweep, toldScript, toldFinder, toldLooks, toldCandidates}
 use Rattle.rules.specs.Calls.{minimizerPremises, intervalPremises}
