@@ -15,6 +15,7 @@ use Rattle.base.specs.Pick.{pick}
 use Rattle.base.specs.Nearest.{LastBelow, NoneBelow, FirstFrom, NoneFrom}
 use Rattle.base.specs.Counting.{count, Same, Bump}
 use Rattle.base.proofs.Order.{lt-or-ge}
+use Rattle.base.proofs.Nearest.{last-same, first-same}
 use Rattle.base.proofs.Counting.{count-next}
 use Rattle.rules.specs.Moves.{Slide, inQuery, isActive, inUnion, isShared, before, firstFrom, after, insertShared, insertOther, insertRef, deleteShared, deleteOther, deleteRef, moved}
 use Rattle.rules.specs.Script.{stepped}
@@ -123,12 +124,6 @@ first-first test s (suc n) some = go (first-first test (s + 1) n) (test s) refl
 pub after-first : (test : ℕ → Bool) (p n : ℕ) → p < n → (((j : ℕ) → p + 1 ≤ j → j < n → set-of test j ≡ 0) → ⊥) → FirstFrom (set-of test) (p + 1) (after test p n)
 unfolding after
 after-first test p n h some = first-first test (p + 1) (n - (p + 1)) (λ none. some (λ j l m. none j l (omega arith)))
-
-last-same : (f g : ℕ → ℕ) (n r : ℕ) → Same f g → LastBelow f n r → LastBelow g n r
-last-same f g n r e a = record { below = a .below; on = e r ∙ a .on; off = λ j l m. e j ∙ a .off j l m }
-
-first-same : (f g : ℕ → ℕ) (n r : ℕ) → Same f g → FirstFrom f n r → FirstFrom g n r
-first-same f g n r e a = record { from = a .from; on = e r ∙ a .on; off = λ j l m. e j ∙ a .off j l m }
 
 -- ---- a count that changes
 

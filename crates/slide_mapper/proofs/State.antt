@@ -16,7 +16,7 @@ use Rattle.base.specs.Nearest.{LastBelow, NoneBelow, FirstFrom, NoneFrom}
 use Rattle.base.specs.Counting.{Same, Bump}
 use Rattle.base.proofs.Order.{lt-or-ge}
 use Rattle.base.proofs.Counting.{count-most, count-up, count-next}
-use Rattle.base.proofs.Nearest.{last-unique, last-not-none, first-unique, first-not-none}
+use Rattle.base.proofs.Nearest.{last-unique, last-not-none, last-same, first-unique, first-same}
 use Rattle.rules.specs.Moves.{insertRef, deleteRef, inQuery, inUnion, isShared, before, after}
 use Rattle.rules.specs.Moves as moves
 use Rattle.rules.specs.Ranks.{either, both, mark, has, Slid}
@@ -258,7 +258,7 @@ module _ {cs ws ss : List ℕ} {at : Slide} (k : Ready cs ws ss at) (i : ℕ) (l
         test = inUnion (flagsOf cs) high
 
         there : LastBelow (λ (j : ℕ). pick (test j) 1 0) (at .pivot .0) q
-        there = record { below = last .below; on = more-bits q ∙ last .on; off = λ j m n. more-bits j ∙ last .off j m n }
+        there = last-same (bitAt (withOn ws i)) (λ (j : ℕ). pick (test j) 1 0) (at .pivot .0) q more-bits last
 
         same-share : min (mark (flagsOf more) (at .pivot .0)) (has (countsOf more) (at .pivot .0)) ≡ pick (isShared (flagsOf cs) high (at .pivot .0)) 1 0
         same-share = rw (more-flags, more-counts) (sym (shared-bit (flagsOf cs) high (at .pivot .0)))
@@ -410,7 +410,7 @@ module _ {cs ws ss : List ℕ} {at : Slide} (k : Ready cs ws ss at) (i : ℕ) (l
           next = after test (at .pivot .0) (length low)
 
           there : FirstFrom (λ (j : ℕ). pick (test j) 1 0) (at .pivot .0 + 1) q
-          there = record { from = first .from; on = less-bits q ∙ first .on; off = λ j m n. less-bits j ∙ first .off j m n }
+          there = first-same (bitAt (withOff ws i)) (λ (j : ℕ). pick (test j) 1 0) (at .pivot .0 + 1) q less-bits first
 
           is-next : q ≡ next
           is-next =
