@@ -3,3 +3,4 @@ pub mod Partition
 pub mod Halving
 pub mod Searching
 pub mod Repeats
+pub mod Numbers

@@ -66,24 +66,26 @@ pub fn insert_ref(
     let i = coord.0 as usize;
     let word = counts[i];
     counts[i] = word + 2;
+    let pivot = at.pivot;
+    // Most steps lie beyond the pivot; there only a hash that is new to the union is to be marked.
+    if pivot.0 < coord.0 {
+        if word != 0 {
+            return at;
+        }
+        summary_bits::set(words, summary, coord);
+        return at;
+    }
     if 1 < word {
         return at;
     }
-    let pivot = at.pivot;
     let shared = at.shared;
     if word == 1 {
-        if coord.0 <= pivot.0 {
-            return Slide {
-                pivot,
-                shared: shared + 1,
-            };
-        }
-        return at;
+        return Slide {
+            pivot,
+            shared: shared + 1,
+        };
     }
     summary_bits::set(words, summary, coord);
-    if pivot.0 < coord.0 {
-        return at;
-    }
     // Tested before the pivot moves: the old pivot leaves the k smallest.
     let lost = shared_bit(counts, pivot);
     match summary_bits::prev_set_before(words, summary, pivot) {
@@ -107,28 +109,29 @@ pub fn delete_ref(
 {
     let i = coord.0 as usize;
     let word = counts[i];
-    if word < 2 {
+    if word < 2 { // no count to lower
         return at;
     }
     counts[i] = word - 2;
+    let pivot = at.pivot;
+    if pivot.0 < coord.0 {
+        if word != 2 {
+            return at;
+        }
+        summary_bits::clear(words, summary, coord);
+        return at;
+    }
     if 3 < word {
         return at;
     }
-    let pivot = at.pivot;
     let shared = at.shared;
     if word == 3 {
-        if coord.0 <= pivot.0 {
-            return Slide {
-                pivot,
-                shared: shared - 1,
-            };
-        }
-        return at;
+        return Slide {
+            pivot,
+            shared: shared - 1,
+        };
     }
     summary_bits::clear(words, summary, coord);
-    if pivot.0 < coord.0 {
-        return at;
-    }
     match summary_bits::next_set_after(words, summary, pivot) {
         Found::At(after) => {
             let next = Coord(after as u32);

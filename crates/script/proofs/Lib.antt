@@ -1,0 +1,6 @@
+pub mod Checking
+pub mod Marks
+pub mod Run
+pub mod Whole
+pub mod Unique
+pub mod Refuted

@@ -1,0 +1,153 @@
+// The work of a script that passed its checks, over work lists of exactly the needed sizes: the query is marked in the count words, the
+// mapper begins, and each step moves it.
+ghost use mathlib.Core.Path.{_≡_};
+ghost use Prim.Native.Nat.{_+_, _^_, _<_};
+ghost use lib.ListN.{length, getD, replicate};
+ghost use Rattle.slide_mapper.specs.State.{flagsOf, slideOf, Ready};
+ghost use Rattle.script.specs.Given.{scriptOf};
+ghost use Rattle.script.specs.Work.{Sound, Accepted, Exact, Clear, marked, Begun, Stepped, lookOf, looksFrom, Start, Answered, Worked};
+use base::Coord;
+use slide_mapper::Slide;
+
+// Marks the query: 1 in the count word of each of its hashes.
+fn mark(query: &[u64], coords: &[u64], counts: &mut [u32])
+    requires { ⌜ Sound (now query) (now coords) × (now counts ≡ replicate (length (now coords)) 0) ⌝ }
+    ensures { λ _. ⌜ now (counts .exit) ≡ marked (now (query .entry)) (now (coords .entry)) ⌝ }
+{
+    let mut i = 0;
+    while i < query.len() {
+        let at = keys::count_below(coords, query[i]);
+        counts[at] = 1;
+        i += 1;
+    }
+}
+
+// The state before the first step.
+fn prepare(
+    query: &[u64],
+    coords: &[u64],
+    counts: &mut [u32],
+    words: &mut [u64],
+    summary: &mut [u64],
+) -> Slide
+    requires { ⌜ Sound (now query) (now coords) × Clear (length (now coords)) (now counts) (now words) (now summary) ⌝ }
+    ensures { λ r. ⌜ Begun (now (query .entry)) (now (coords .entry)) (now (counts .exit)) (now (words .exit)) (now (summary .exit)) r ⌝ }
+{
+    mark(query, coords, counts);
+    slide_mapper::begin(counts, words, summary)
+}
+
+// One step: kind 1 inserts, any other deletes.
+fn step(
+    counts: &mut [u32],
+    words: &mut [u64],
+    summary: &mut [u64],
+    at: Slide,
+    kind: u8,
+    coord: Coord,
+) -> Slide
+    requires { ⌜ Ready (now counts) (now words) (now summary) at × (coord .0 < length (now counts)) × (getD (now counts) (coord .0) 0 + 2 < 2 ^ 32) ⌝ }
+    ensures { λ r. ⌜ Stepped (now (counts .entry)) (now (words .entry)) (now (summary .entry)) at kind (coord .0) (now (counts .exit)) (now (words .exit)) (now (summary .exit)) r ⌝ }
+{
+    if kind == 1 {
+        return slide_mapper::insert_ref(counts, words, summary, at, coord);
+    }
+    slide_mapper::delete_ref(counts, words, summary, at, coord)
+}
+
+// All steps, each with its answer.
+fn run(
+    indexes: &[u32],
+    kinds: &[u8],
+    counts: &mut [u32],
+    words: &mut [u64],
+    summary: &mut [u64],
+    pivots: &mut [u32],
+    shareds: &mut [u32],
+    start: Slide,
+) -> Slide
+    requires { ⌜ Start (now indexes) (now kinds) (now counts) (now words) (now summary) (now pivots) (now shareds) start ⌝ }
+    ensures { λ r. ⌜ Answered (lookOf start) (looksFrom (flagsOf (now (counts .entry))) (now (indexes .entry)) (now (kinds .entry)) (slideOf (now (counts .entry)) start)) (now (pivots .entry)) (now (shareds .entry)) (now (pivots .exit)) (now (shareds .exit)) (lookOf r) ⌝ }
+{
+    let mut at = start;
+    let mut j = 0;
+    while j < indexes.len() {
+        at = step(counts, words, summary, at, kinds[j], Coord(indexes[j]));
+        let pivot = at.pivot;
+        pivots[j] = pivot.0;
+        shareds[j] = at.shared;
+        j += 1;
+    }
+    at
+}
+
+// Clears the work lists.
+fn clear(counts: &mut [u32], words: &mut [u64], summary: &mut [u64])
+    ensures { λ _. ⌜ (now (counts .exit) ≡ replicate (length (now (counts .entry))) 0) × (now (words .exit) ≡ replicate (length (now (words .entry))) 0) × (now (summary .exit) ≡ replicate (length (now (summary .entry))) 0) ⌝ }
+{
+    let m = counts.len();
+    base::clear_counts(counts, m);
+    let w = words.len();
+    base::clear_words(words, w);
+    let s = summary.len();
+    base::clear_words(summary, s);
+}
+
+// The whole script, over clear work lists, which it leaves clear.
+fn work(
+    query: &[u64],
+    coords: &[u64],
+    indexes: &[u32],
+    kinds: &[u8],
+    counts: &mut [u32],
+    words: &mut [u64],
+    summary: &mut [u64],
+    pivots: &mut [u32],
+    shareds: &mut [u32],
+) -> Slide
+    requires { ⌜ Accepted (scriptOf (now query) (now coords) (now indexes) (now kinds)) (now pivots) (now shareds) × Clear (length (now coords)) (now counts) (now words) (now summary) ⌝ }
+    ensures { λ r. ⌜ Worked (scriptOf (now (query .entry)) (now (coords .entry)) (now (indexes .entry)) (now (kinds .entry))) (now (pivots .entry)) (now (shareds .entry)) (now (counts .exit)) (now (words .exit)) (now (summary .exit)) (now (pivots .exit)) (now (shareds .exit)) r ⌝ }
+{
+    let start = prepare(query, coords, counts, words, summary);
+    let last = run(
+        indexes,
+        kinds,
+        counts,
+        words,
+        summary,
+        pivots,
+        shareds,
+        start,
+    );
+    clear(counts, words, summary);
+    last
+}
+
+// The same, whatever the work lists held.
+pub fn clear_and_work(
+    query: &[u64],
+    coords: &[u64],
+    indexes: &[u32],
+    kinds: &[u8],
+    counts: &mut [u32],
+    words: &mut [u64],
+    summary: &mut [u64],
+    pivots: &mut [u32],
+    shareds: &mut [u32],
+) -> Slide
+    requires { ⌜ Accepted (scriptOf (now query) (now coords) (now indexes) (now kinds)) (now pivots) (now shareds) × Exact (length (now coords)) (now counts) (now words) (now summary) ⌝ }
+    ensures { λ r. ⌜ Worked (scriptOf (now (query .entry)) (now (coords .entry)) (now (indexes .entry)) (now (kinds .entry))) (now (pivots .entry)) (now (shareds .entry)) (now (counts .exit)) (now (words .exit)) (now (summary .exit)) (now (pivots .exit)) (now (shareds .exit)) r ⌝ }
+{
+    clear(counts, words, summary);
+    work(
+        query,
+        coords,
+        indexes,
+        kinds,
+        counts,
+        words,
+        summary,
+        pivots,
+        shareds,
+    )
+}
