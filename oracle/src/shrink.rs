@@ -12,12 +12,16 @@ use crate::model::needs;
 const LONGEST: Duration = Duration::from_secs(15);
 
 pub fn shrunk(case: &Case, patience: Patience) -> Case {
+    shrunk_while(case, |case| case.judge(patience).difference.is_some())
+}
+
+/// As small as it goes while `stays` holds.
+pub fn shrunk_while(case: &Case, stays: impl Fn(&Case) -> bool) -> Case {
     let began = Instant::now();
-    let stays = |case: &Case| case.judge(patience).difference.is_some();
     let in_time = |_: &Case| began.elapsed() < LONGEST;
     let mut best = case.clone();
     loop {
-        let next = smaller(&best).take_while(in_time).find(stays);
+        let next = smaller(&best).take_while(in_time).find(&stays);
         match next {
             Some(next) => best = next,
             None => return best,
