@@ -1,0 +1,6 @@
+pub mod Filling
+pub mod Union
+pub mod Marks
+pub mod Ranks
+pub mod Keys
+pub mod Walk

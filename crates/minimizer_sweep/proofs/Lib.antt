@@ -1,0 +1,8 @@
+-- Laws that other crates cite, as `Rattle.minimizer_sweep.proofs.NAME`.
+
+-- Moving: from a stop to the next, by the positions
+pub mod Moving
+-- Holding: which items are active after a move
+pub mod Holding
+-- Running: the best of what is scored so far and of the stops to come is the best of all
+pub mod Running

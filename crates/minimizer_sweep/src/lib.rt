@@ -1,0 +1,2 @@
+// The minimizer sweep (the original's `do_l2_mapping_bitset_exact`).
+mod stops;

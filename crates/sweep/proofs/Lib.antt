@@ -1,0 +1,6 @@
+-- Laws that other crates cite, as `Rattle.sweep.proofs.NAME`.
+
+-- Upto: the numbers below n, as a list
+pub mod Upto
+-- Active: the shared count is the score of the active items; one item more, one less
+pub mod Active
