@@ -72,7 +72,9 @@ fn run(
     let mut at = start;
     let mut j = 0;
     while j < indexes.len() {
-        at = step(counts, words, summary, at, kinds[j], Coord(indexes[j]));
+        let kind = kinds[j];
+        let index = indexes[j];
+        at = step(counts, words, summary, at, kind, Coord(index));
         let pivot = at.pivot;
         pivots[j] = pivot.0;
         shareds[j] = at.shared;

@@ -25,16 +25,16 @@ body d = d .before .before .before .before .before .before
 loop-holds : tie.Need-loop-holds Inv-loop μ-loop
 loop-holds c = running-start (c .before .before .before .before .before .before .before .pre)
 
-shared-slice-read-step : tie.Need-shared-slice-read-step Inv-loop μ-loop
-shared-slice-read-step c =
-    let i = c .before .before .before .before in
+shared-slice-read-kind : tie.Need-shared-slice-read-kind Inv-loop μ-loop
+shared-slice-read-kind c =
+    let i = c .before in
     running-kind (st (i .before) .pre) (i .before .loop .inv) (i .loop-test .taken)
 
-mul-t12 : tie.Need-mul-t12 Inv-loop μ-loop
-mul-t12 c = search needs
+mul-index : tie.Need-mul-index Inv-loop μ-loop
+mul-index c = search needs
 
-shared-slice-read-t23 : tie.Need-shared-slice-read-t23 Inv-loop μ-loop
-shared-slice-read-t23 c = search needs
+shared-slice-read-index : tie.Need-shared-slice-read-index Inv-loop μ-loop
+shared-slice-read-index c = search needs
 
 step-requires : tie.Need-step-requires Inv-loop μ-loop
 step-requires c κs =
@@ -92,9 +92,9 @@ run-spec =
     Inv-loop
     μ-loop
     loop-holds
-    shared-slice-read-step
-    mul-t12
-    shared-slice-read-t23
+    shared-slice-read-kind
+    mul-index
+    shared-slice-read-index
     step-requires
     mul-pivots
     slice-write-pivots
