@@ -32,7 +32,7 @@ fn number(query: &[u64], hashes: &[u64], keys: &mut [u64], coords: &mut [u32]) -
 }
 
 // Numbers the query's hashes in the first of `coords` and the items' after them, marks the query in the count words, and returns how many
-// coordinates there are. What `keys` is left with is nobody's business: the caller clears it.
+// coordinates there are. Nothing is said of what `keys` is left with: the caller clears it.
 pub fn coordinates(
     query: &[u64],
     hashes: &[u64],

@@ -78,3 +78,17 @@ stopsOf w rangeEnd ps t = stopsFrom (length ps + length ps) w rangeEnd (sites ps
 pub record Over (ms : List Bool) (ps ns : List ℕ) (w rangeEnd : ℕ) (t : rules.Stop) (first : Best) (r : Swept) : Type 0 where
   pub best : r .best ≡ bestFrom first (scoredFor ms ns ps (stopsOf w rangeEnd ps t))
   pub windows : r .windows ≡ length (stopsOf w rangeEnd ps t)
+
+-- what the whole sweep asks: no item is active yet, and there is one
+pub record Begin (ps ns : List ℕ) (w : ℕ) (cs ws ss : List ℕ) (at : Slide) : Type 0 where
+  pub holds : Holds ns cs ws ss at 0 0
+  pub parallel : length ns ≡ length ps
+  pub asc : Asc ps
+  pub some : 0 < w
+  pub small : w < 2 ^ 32
+  pub item : 0 < length ps
+
+-- and answers: the best of all stops, and their number
+pub record Whole (ms : List Bool) (ps ns : List ℕ) (w rangeEnd : ℕ) (r : Swept) : Type 0 where
+  pub best : r .best ≡ best (scoredFor ms ns ps (stopsOf w rangeEnd ps (firstStop w (sites ps))))
+  pub windows : r .windows ≡ length (stopsOf w rangeEnd ps (firstStop w (sites ps)))

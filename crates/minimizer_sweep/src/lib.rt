@@ -1,2 +1,4 @@
 // The minimizer sweep (the original's `do_l2_mapping_bitset_exact`).
+mod checks;
+mod local;
 mod stops;

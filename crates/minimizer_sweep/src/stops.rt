@@ -6,7 +6,7 @@ ghost use lib.ListN.{length};
 ghost use Rattle.rules.specs.Minimizer.{goesOn, nextStop};
 ghost use Rattle.rules.specs.Sweep as rules;
 ghost use Rattle.slide_mapper.specs.State.{flagsOf};
-ghost use Rattle.minimizer_sweep.specs.Stops.{sites, stopOf, scoredAt, Room, Holds, Step, Same, Start, Over};
+ghost use Rattle.minimizer_sweep.specs.Stops.{sites, stopOf, scoredAt, Room, Holds, Step, Same, Start, Over, Begin, Whole};
 use base::Base;
 use base::Best;
 use base::Coord;
@@ -187,4 +187,55 @@ fn fill(
         i += 1;
     }
     at
+}
+
+// The best of all stops of the local items, of which there is one at least. The first stop begins at the first item.
+pub fn sweep(
+    positions: &[u32],
+    numbers: &[u32],
+    w: u64,
+    last: u32,
+    counts: &mut [u32],
+    words: &mut [u64],
+    summary: &mut [u64],
+    start: Slide,
+) -> Swept
+    requires { ⌜ Begin (now positions) (now numbers) w (now counts) (now words) (now summary) start ⌝ }
+    ensures { λ r. ⌜ Whole (flagsOf (now (counts .entry))) (now (positions .entry)) (now (numbers .entry)) w last r ⌝ }
+{
+    let p = wide(positions[0]);
+    let e = keys::count_below_u32(positions, p + w);
+    let from = Stop {
+        b: 0,
+        e,
+        p: Base(p),
+    };
+    if goes_on(positions, last, from) {
+        let at = fill(numbers, counts, words, summary, start, e);
+        let first = Best {
+            shared: at.shared,
+            first: Base(p),
+            last: Base(p),
+        };
+        return run(
+            positions,
+            numbers,
+            w,
+            last,
+            counts,
+            words,
+            summary,
+            at,
+            from,
+            first,
+        );
+    }
+    Swept {
+        best: Best {
+            shared: 0,
+            first: Base(0),
+            last: Base(0),
+        },
+        windows: 0,
+    }
 }
