@@ -10,3 +10,7 @@ pub mod Holding
 pub mod Running
 -- Sweeping: the first stop, and the best of all from the best with it
 pub mod Sweeping
+-- Positions: items at the same positions have the same stops
+pub mod Positions
+-- Meaning: the sweep over numbers and positions finds the rules' best
+pub mod Meaning

@@ -28,7 +28,7 @@ use Rattle.sweep.proofs.Upto.{up-length, up-at, strict-up, up-in, in-up
 -- ---- the query as numbers
 
 module _ (ms : List Bool) where
-  abbrev all : List ℕ
+  abbrev pub all : List ℕ
   all = upFrom 0 (length ms)
 
   abbrev on : ℕ → Bool
@@ -42,14 +42,14 @@ module _ (ms : List Bool) where
   unfolding asked
   member-asked h = member-filter on h all
 
-  asked-in : (h : ℕ) → member h (asked ms) ≡ true → member h all ≡ true
+  pub asked-in : (h : ℕ) → member h (asked ms) ≡ true → member h all ≡ true
   asked-in h m =
       ⊎-elim (λ (e : member h all ≡ true). e)
       (λ (e : member h all ≡ false). let z : false ≡ true = sym (and-false (on h)) ∙ ap (λ (b : Bool). on h && b) (sym e) ∙ sym (member-asked h) ∙ m in e ∙ z)
       (cases (member h all))
 
   -- their marks among all numbers are the flags
-  marks-asked : marks (asked ms) all ≡ ms
+  pub marks-asked : marks (asked ms) all ≡ ms
   unfolding marks
   marks-asked = ext-getD false (map flag all) ms (length-map all flag ∙ up-length 0 (length ms)) at
     where
@@ -65,6 +65,19 @@ module _ (ms : List Bool) where
           let e : getD all i (length ms) ≡ i = omega (arith, up-at 0 (length ms) i (length ms) h) in
           ap (λ (b : Bool). getD (map flag all) i b) (sym past) ∙ List·getD-map flag all i (length ms) ∙ ap flag e ∙ member-asked i ∙
           ap (λ (b : Bool). on i && b) (up-in (length ms) i h) ∙ and-true (on i)
+
+-- a number is active exactly where it is counted
+pub counted-members : (ms : List Bool) (counts ns : List ℕ) → length counts ≡ length ms → ((j : ℕ) → getD counts j 0 ≡ times j ns) → (h : ℕ) → member h (active (all ms) counts) ≡ member h ns
+counted-members ms counts ns same k h =
+    let n = length ms in
+    member-active h (all ms) counts (strict-up n) (same ∙ sym (up-length 0 n)) ∙
+    ⊎-elim (λ (l : h < n).
+    ap (λ (b : Bool). b && ltb 0 (getD counts (numberOf (all ms) h) 0)) (up-in n h l) ∙
+    ap (λ (i : ℕ). ltb 0 (getD counts i 0)) (up-number n h l) ∙ ap (ltb 0) (k h))
+    (λ (l : n ≤ h).
+    let z : times h ns ≡ 0 = sym (k h) ∙ List·getD-eq-default counts 0 (omega arith) in
+    ap (λ (b : Bool). b && ltb 0 (getD counts (numberOf (all ms) h) 0)) (up-out n h l) ∙ ap (ltb 0) (sym z)) (lt-or-ge h n) ∙
+    sym (member-times h ns)
 
 -- ---- the shared count is the score
 
@@ -84,21 +97,11 @@ module _ {cs ws ss : List ℕ} {at : Slide} {ns : List ℕ} (k : Active cs ws ss
   lens : length (countsOf cs) ≡ length (all flags)
   lens = counts-length cs ∙ sym (flags-length cs) ∙ sym (up-length 0 n)
 
-  same : (h : ℕ) → member h (active (all flags) (countsOf cs)) ≡ member h ns
-  same h =
-      member-active h (all flags) (countsOf cs) (strict-up n) lens ∙
-      ⊎-elim (λ (l : h < n).
-      ap (λ (b : Bool). b && ltb 0 (getD (countsOf cs) (numberOf (all flags) h) 0)) (up-in n h l) ∙
-      ap (λ (i : ℕ). ltb 0 (getD (countsOf cs) i 0)) (up-number n h l) ∙ ap (ltb 0) (k .counts h))
-      (λ (l : n ≤ h).
-      let z : times h ns ≡ 0 = sym (k .counts h) ∙ List·getD-eq-default (countsOf cs) 0 (omega (arith, counts-length cs, flags-length cs)) in
-      ap (λ (b : Bool). b && ltb 0 (getD (countsOf cs) (numberOf (all flags) h) 0)) (up-out n h l) ∙ ap (ltb 0) (sym z)) (lt-or-ge h n) ∙
-      sym (member-times h ns)
-
   pub active-score : at .shared ≡ score (asked flags) ns
   active-score =
       sym (score-is (asked flags) (all flags) (countsOf cs) (strict-asked flags) (strict-up n) (asked-in flags) lens (at .pivot .0) (at .shared) ranked) ∙
-      score-same (asked flags) (active (all flags) (countsOf cs)) ns same
+      score-same (asked flags) (active (all flags) (countsOf cs)) ns
+      (counted-members flags (countsOf cs) ns (counts-length cs ∙ sym (flags-length cs)) (k .counts))
 
 -- ---- one item more, one less
 

@@ -4,3 +4,5 @@
 pub mod Upto
 -- Active: the shared count is the score of the active items; one item more, one less
 pub mod Active
+-- Numbers: scoring coordinate numbers is scoring hashes
+pub mod Numbers
