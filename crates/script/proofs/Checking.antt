@@ -1,7 +1,7 @@
--- The checks of a script: a walk that stops at the first element that fails, a search that tells a coordinate, the chain of verdicts, and what
+-- The checks of a script: a walk that stops at the first element that fails, one over both lists that tells the coordinates, the chain of verdicts, and what
 -- a fine verdict tells of the lists, which is that they passed each test. Assumes nothing.
 use mathlib.Core.Path.{_≡_, sym, ap, _∙_, subst}
-use mathlib.Core.Logic.{⊎-elim}
+use mathlib.Core.Logic.{⊎-elim, _≢_}
 use mathlib.Core.Bool.{true, false, and-false}
 use mathlib.Core.List.{List}
 use Prim.Native.Nat.{ℕ, _+_, _≤_, _<_}
@@ -12,12 +12,13 @@ use lib.ListN.{length, getD, drop, drop-of-length-le}
 use lib.Seq.{drop-cons}
 use borrow.Author.Tests.{lt-ltb, le-ltb, le-leb, lt-leb}
 use Rattle.base.specs.Pick.{pick}
-use Rattle.base.specs.Lists.{All, StrictAsc}
+use Rattle.base.specs.Lists.{All, StrictAsc, hit}
 use Rattle.base.specs.OrderChecks.{orderOf}
 use Rattle.base.specs.declared.Refusal.{Refusal}
 use Rattle.base.specs.declared.Verdict.{Verdict}
 use Rattle.base.specs.declared.Verdict.the-variants.{Fine, No}
-use Rattle.base.proofs.Lists.{all-index}
+use Rattle.base.proofs.Lists.{all-index, asc-at, strict-at, strict-asc}
+use Rattle.base.proofs.Order.{lt-or-ge}
 use Rattle.base.proofs.OrderChecks.{order-strict}
 use Rattle.base.proofs.Verdicts.{or-stop, or-skip, or-fine, lt-fine, eq-fine, same-fine}
 use Rattle.rules.specs.Lists.{member}
@@ -29,10 +30,9 @@ use Rattle.rules.specs.Calls.{ScriptLent, scriptRoomOf}
 use Rattle.rules.specs.Accepted.{ScriptFits}
 use Rattle.rules.proofs.Accepted.{script-hash, script-step, script-fits}
 use Rattle.rules.proofs.Score.{cases, all-member, getD-member, at-number, number-fits}
-use Rattle.keys.specs.Lists.{below}
-use Rattle.keys.proofs.Numbers.{below-number}
 use Rattle.script.specs.Given.{Sized}
 use Rattle.script.specs.Work.{Accepted}
+use Rattle.slide_mapper.proofs.Hits.{by-hit}
 
 -- A walk, at i: f k is how many pass from k on before the first that fails.
 pub record Passed (f : ℕ → ℕ) (i : ℕ) : Type 0 where
@@ -87,20 +87,52 @@ module _ (n : ℕ) (indexes kinds : List ℕ) (i : ℕ) where
   unfolding firstBadStep
   bad-end l = rw (drop-of-length-le indexes l)
 
--- A search for h among the coordinates tells whether it is one.
-module _ (coords : List ℕ) (asc : StrictAsc coords) (h at : ℕ) (e : at ≡ below h coords) where
-  number : at ≡ numberOf coords h
-  number = e ∙ below-number h coords
+-- The walk over both lists, at hash q and coordinate i: the hashes before q are coordinates, and q is none of those passed, since both lists ascend.
+pub record Walking (query coords : List ℕ) (q i : ℕ) : Type 0 where
+  pub few : q ≤ length query
+  pub passed : Passed (missingFrom coords query) q
+  pub not-yet : (j : ℕ) → j < i → q < length query → getD coords j 0 ≢ getD query q 0
 
-  pub past-not-in : length coords ≤ at → member h coords ≡ false
-  past-not-in l = ⊎-elim (λ (t : member h coords ≡ true). absurd (omega (arith, number-fits coords asc h t, number))) (λ t. t) (cases (member h coords))
+pub walking-start : (query coords : List ℕ) → Walking query coords 0 0
+walking-start query coords = record { few = omega arith; passed = passed-none; not-yet = λ j l m. absurd (omega arith) }
 
-  pub other-not-in : (getD coords at 0 ≡ h → ⊥) → member h coords ≡ false
-  other-not-in n =
-      ⊎-elim (λ (t : member h coords ≡ true). absurd (n (ap (λ (k : ℕ). getD coords k 0) number ∙ at-number coords asc h t))) (λ t. t) (cases (member h coords))
+module _ {query coords : List ℕ} {q i : ℕ} (w : Walking query coords q i) where
+  module _ (query-asc : StrictAsc query) (coords-asc : StrictAsc coords) (l : i < length coords) (m : q < length query) where
+    walking-hit : getD coords i 0 ≡ getD query q 0 → Walking query coords (q + 1) (i + 1)
+    walking-hit e = record {
+      few = omega arith;
+      passed = passed-more (w .passed) (missing-next coords query q m (subst (λ (x : ℕ). member x coords ≡ true) e (getD-member coords i l)));
+      not-yet = λ j k n f. omega (arith, f, e, asc-at coords (strict-asc coords coords-asc) j i (omega arith) l, strict-at query query-asc q (q + 1) (omega arith) n);
+    }
 
-  pub found-in : at < length coords → getD coords at 0 ≡ h → member h coords ≡ true
-  found-in l q = subst (λ (x : ℕ). member x coords ≡ true) q (getD-member coords at l)
+    walking-miss : getD coords i 0 ≢ getD query q 0 → Walking query coords (q + 0) (i + 1)
+    walking-miss n =
+        subst (λ (k : ℕ). Walking query coords k (i + 1)) (let e : q ≡ q + 0 = omega arith in e)
+        (record {
+          few = w .few;
+          passed = w .passed;
+          not-yet = λ j k o.
+              ⊎-elim (λ (b : j < i). w .not-yet j b o)
+              (λ (b : i ≤ j). subst (λ (x : ℕ). getD coords x 0 ≢ getD query q 0) (let e : i ≡ j = omega arith in e) n) (lt-or-ge j i);
+        })
+
+    pub walking-step : (h : ℕ) → h ≡ hit (getD coords i 0) (getD query q 0) → Walking query coords (q + h) (i + 1)
+    walking-step h e =
+        subst (λ (k : ℕ). Walking query coords (q + k) (i + 1)) (sym e)
+        (by-hit (λ (k : ℕ). Walking query coords (q + k) (i + 1)) (getD coords i 0) (getD query q 0) walking-hit walking-miss)
+
+  pub walking-full : length query ≤ q → q ≡ firstMissing coords query
+  walking-full l = passed-stop (w .passed) (missing-end coords query q l)
+
+  pub walking-end : StrictAsc coords → length coords ≤ i → q ≡ firstMissing coords query
+  walking-end asc l =
+      ⊎-elim
+      (λ (m : q < length query).
+      let h = getD query q 0 in
+      passed-stop (w .passed)
+      (missing-here coords query q m
+      (⊎-elim (λ (t : member h coords ≡ true). absurd (w .not-yet (numberOf coords h) (omega (arith, number-fits coords asc h t)) m (at-number coords asc h t))) (λ t. t) (cases (member h coords)))))
+      walking-full (lt-or-ge q (length query))
 
 -- The verdict is the first refusal in number order.
 abbrev pub sizes : Script → Verdict

@@ -7,6 +7,7 @@ ghost use Rattle.base.specs.Verdicts.{refuse};
 ghost use Rattle.rules.specs.Checks.{scriptSizes, scriptOrders, firstMissing, firstBadStep, scriptMembers, scriptNeeds};
 ghost use Rattle.rules.specs.Refusals.{scriptVerdict};
 ghost use Rattle.script.specs.Given.{scriptOf, roomOf, Sized};
+use crate::walk;
 use base::Refusal;
 use base::Verdict;
 
@@ -65,24 +66,22 @@ fn check_orders(query: &[u64], coords: &[u64]) -> Verdict
     Verdict::Fine
 }
 
-// The index of the first query hash that is no coordinate, or the query's length.
+// The index of the first query hash that is no coordinate, or the query's length: one walk over both lists. It moves by a sum, since a
+// branch on a hash is guessed wrong too often.
 fn first_missing(query: &[u64], coords: &[u64]) -> usize
-    requires { ⌜ StrictAsc (now coords) ⌝ }
+    requires { ⌜ StrictAsc (now query) × StrictAsc (now coords) ⌝ }
     ensures { λ r. ⌜ r ≡ firstMissing (now (coords .entry)) (now (query .entry)) ⌝ }
 {
+    let mut q = 0;
     let mut i = 0;
-    while i < query.len() {
-        let hash = query[i];
-        let at = keys::count_below(coords, hash);
-        if coords.len() <= at {
-            return i;
+    while i < coords.len() {
+        if query.len() <= q {
+            return q;
         }
-        if coords[at] != hash {
-            return i;
-        }
+        q += walk::one_if_equal(coords[i], query[q]) as usize;
         i += 1;
     }
-    i
+    q
 }
 
 // The index of the first step that is past the n coordinates or of no kind, or the number of steps.
@@ -105,7 +104,7 @@ fn first_bad_step(n: usize, indexes: &[u32], kinds: &[u8]) -> usize
 
 // 6.
 fn check_members(query: &[u64], coords: &[u64], indexes: &[u32], kinds: &[u8]) -> Verdict
-    requires { ⌜ Sized (now query) (now coords) (now indexes) (now kinds) × StrictAsc (now coords) ⌝ }
+    requires { ⌜ Sized (now query) (now coords) (now indexes) (now kinds) × StrictAsc (now query) × StrictAsc (now coords) ⌝ }
     ensures { λ r. ⌜ r ≡ scriptMembers (now (query .entry)) (now (coords .entry)) (now (indexes .entry)) (now (kinds .entry)) ⌝ }
 {
     let i = first_missing(query, coords);

@@ -1,6 +1,7 @@
 // A script of inserts and deletes over the slide mapper: pivot and shared count after each step. The outward call stands here; below it
 // are the checks, which touch no buffer, and the work, which starts and leaves its buffers cleared.
 mod checks;
+mod walk;
 mod work;
 
 ghost use Rattle.rules.specs.Calls.{ScriptPromise};

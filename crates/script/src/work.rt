@@ -6,18 +6,24 @@ ghost use lib.ListN.{length, getD, replicate};
 ghost use Rattle.slide_mapper.specs.State.{flagsOf, slideOf, Ready};
 ghost use Rattle.script.specs.Given.{scriptOf};
 ghost use Rattle.script.specs.Work.{Sound, Accepted, Exact, Clear, marked, Begun, Stepped, lookOf, looksFrom, Start, Answered, Worked};
+use crate::walk;
 use base::Coord;
 use slide_mapper::Slide;
 
-// Marks the query: 1 in the count word of each of its hashes.
+// Marks the query: 1 in the count word of each of its hashes, in one walk over both lists.
 fn mark(query: &[u64], coords: &[u64], counts: &mut [u32])
     requires { ⌜ Sound (now query) (now coords) × (now counts ≡ replicate (length (now coords)) 0) ⌝ }
     ensures { λ _. ⌜ now (counts .exit) ≡ marked (now (query .entry)) (now (coords .entry)) ⌝ }
 {
+    let mut q = 0;
     let mut i = 0;
-    while i < query.len() {
-        let at = keys::count_below(coords, query[i]);
-        counts[at] = 1;
+    while i < coords.len() {
+        if query.len() <= q {
+            return;
+        }
+        let hit = walk::one_if_equal(coords[i], query[q]);
+        counts[i] = hit;
+        q += hit as usize;
         i += 1;
     }
 }

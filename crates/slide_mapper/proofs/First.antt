@@ -1,85 +1,141 @@
--- The state before the first item: once the query's bits are set the union is the query, and its last bit has all the others before it.
+-- The state before the first item: once the query's bits are stored, a word at a time, the union is the query, and its last bit has all the others before it.
 use mathlib.Core.Path.{_≡_, refl, sym, ap, _∙_, subst}
-use mathlib.Core.Logic.{_⊎_, inl, inr, ⊎-elim, _≢_}
+use mathlib.Core.Logic.{⊎-elim, _≢_}
 use mathlib.Core.List.{List}
 use Prim.Native.Nat.{ℕ, zero, suc, _+_, _-_, _*_, _/_, _%_, _^_, _≤_, _<_, min, max}
-use native.Mathlib.Decide.{ℕ-discrete}
+use native.Mathlib.Nat.{zero-mul}
 use native.Mathlib.Omega.{arith}
-use lib.ListN.{length, getD, List·getD-eq-default}
+use lib.Bits.{bitOr}
+use lib.Dec.{eqb}
+use lib.ListN.{length, getD, set, length-set, List·getD-eq-default}
+use lib.Seq.{getD-set-other}
+use Rattle.base.specs.Pick.{pick}
 use Rattle.base.specs.Nearest.{LastBelow, NoneBelow}
 use Rattle.base.specs.Counting.{count}
-use Rattle.base.proofs.Order.{lt-or-ge}
+use Rattle.base.proofs.Order.{lt-or-ge, eq-or-ne}
 use Rattle.base.proofs.Counting.{count-zero, count-next, count-same, count-none}
 use Rattle.rules.specs.Ranks.{either, both, mark, has, size, PivotAt, Slid}
-use Rattle.summary_bits.specs.Bits.{bitAt, withOn}
-use Rattle.summary_bits.specs.Summary.{Fits, Summary, raised}
-use Rattle.summary_bits.proofs.Words.{on-length, on-here, on-elsewhere}
-use Rattle.summary_bits.proofs.Kept.{raised-length, summary-set}
+use Rattle.summary_bits.specs.Bits.{bit, bitAt, withOn}
+use Rattle.summary_bits.specs.Summary.{Fits, Summary}
+use Rattle.summary_bits.proofs.Number.{one-shl, bit-of-zero, bit-or, bit-pow-same, bit-pow-other}
+use Rattle.summary_bits.proofs.Words.{bitAt-zero, zeros-at, no-bits}
+use Rattle.summary_bits.proofs.Stored.{stored-here, stored-elsewhere, stored-length, stored-summary}
 use Rattle.slide_mapper.specs.declared.Slide.{Slide}
-use Rattle.slide_mapper.specs.State.{flagsOf, countsOf, slideOf, Held, Ready, Blank}
-use Rattle.slide_mapper.proofs.State.{mark-at, has-at, either-at, counts-length, flags-length}
+use Rattle.slide_mapper.specs.State.{flagsOf, countsOf, slideOf, Gathered, Held, Ready, Blank}
+use Rattle.slide_mapper.proofs.State.{mark-at, has-at, counts-length, flags-length}
 
--- the flags below i are set as bits
-pub record Marked (cs ws₀ ss₀ ws ss : List ℕ) (i : ℕ) : Type 0 where
-  pub low : i ≤ length cs
-  pub done : (j : ℕ) → j < i → bitAt ws j ≡ getD cs j 0
-  pub rest : (j : ℕ) → i ≤ j → bitAt ws j ≡ 0
+-- ---- one word
+
+-- a flag shifted to bit s
+flag-same : (c s : ℕ) → c ≤ 1 → s < 64 → bit (c * 2 ^ s % 2 ^ 64) s ≡ c
+flag-same zero s h l = ap (λ (n : ℕ). bit n s) (let e : zero * 2 ^ s % 2 ^ 64 ≡ 0 = omega (arith, zero-mul (2 ^ s)) in e) ∙ bit-of-zero s
+flag-same (suc zero) s h l = ap (λ (n : ℕ). bit n s) (one-shl s l) ∙ bit-pow-same s
+flag-same (suc (suc c)) s h l = absurd (omega arith)
+
+flag-other : (c s b : ℕ) → c ≤ 1 → s < 64 → b ≢ s → bit (c * 2 ^ s % 2 ^ 64) b ≡ 0
+flag-other zero s b h l n = ap (λ (m : ℕ). bit m b) (let e : zero * 2 ^ s % 2 ^ 64 ≡ 0 = omega (arith, zero-mul (2 ^ s)) in e) ∙ bit-of-zero b
+flag-other (suc zero) s b h l n = ap (λ (m : ℕ). bit m b) (one-shl s l) ∙ bit-pow-other s b n
+flag-other (suc (suc c)) s b h l n = absurd (omega arith)
+
+pub gathered-none : (cs : List ℕ) (from : ℕ) → Gathered cs from from 0
+gathered-none cs from = record { inside = λ b l. absurd (omega arith); past = λ b l. bit-of-zero b }
+
+pub gathered-more : {cs : List ℕ} {from i x : ℕ} → Gathered cs from i x → from ≤ i → i < from + 64 → getD cs i 0 ≤ 1
+    → Gathered cs from (i + 1) (bitOr x (getD cs i 0 * 2 ^ (i - from) % 2 ^ 64))
+gathered-more {cs} {from} {i} {x} g l m h = record {
+  inside = λ b k.
+      ⊎-elim
+      (λ (q : b ≡ i - from).
+      subst (λ (n : ℕ). bit (bitOr x y) n ≡ getD cs (from + n) 0) (sym q)
+      (omega (arith, bit-or x y (i - from), g .past (i - from) (omega arith), flag-same c (i - from) h (omega arith), ap (λ (n : ℕ). getD cs n 0) back)))
+      (λ (d : b ≢ i - from). omega (arith, bit-or x y b, g .inside b (omega arith), flag-other c (i - from) b h (omega arith) d)) (eq-or-ne b (i - from));
+  past = λ b k. omega (arith, bit-or x y b, g .past b (omega arith), flag-other c (i - from) b h (omega arith) (omega arith));
+}
+  where
+    c : ℕ
+    c = getD cs i 0
+
+    y : ℕ
+    y = c * 2 ^ (i - from) % 2 ^ 64
+
+    back : from + (i - from) ≡ i
+    back = omega arith
+
+-- ---- the words before w hold their flags as bits, and the others are 0
+
+pub record Filled (cs ws₀ ss₀ ws ss : List ℕ) (w : ℕ) : Type 0 where
+  pub low : w * 64 < length cs + 64
+  pub done : (j : ℕ) → j < w * 64 → bitAt ws j ≡ getD cs j 0
+  pub rest : (v : ℕ) → w ≤ v → getD ws v 0 ≡ 0
+  pub summary : Summary ws ss
+  pub words-len : length ws ≡ length ws₀
+  pub summary-len : length ss ≡ length ss₀
+
+-- once all words are stored
+pub record Marked (cs ws₀ ss₀ ws ss : List ℕ) : Type 0 where
+  pub done : (j : ℕ) → j < length cs → bitAt ws j ≡ getD cs j 0
+  pub rest : (j : ℕ) → length cs ≤ j → bitAt ws j ≡ 0
   pub summary : Summary ws ss
   pub words-len : length ws ≡ length ws₀
   pub summary-len : length ss ≡ length ss₀
 
 module _ {cs ws₀ ss₀ : List ℕ} (b : Blank cs ws₀ ss₀) where
-  pub marked-none : Marked cs ws₀ ss₀ ws₀ ss₀ 0
-  marked-none = record {
+  fits-kept : {ws ss : List ℕ} → length ws ≡ length ws₀ → length ss ≡ length ss₀ → Fits ws ss
+  fits-kept e f = record { room = omega (arith, b .fits .room, e, f); small = omega (arith, b .fits .small, e) }
+
+  pub filled-none : ((v : ℕ) → getD ws₀ v 0 < 2 ^ 64) → Filled cs ws₀ ss₀ ws₀ ss₀ 0
+  filled-none h = record {
     low = omega arith;
     done = λ j l. absurd (omega arith);
-    rest = λ j l. b .words j;
+    rest = λ v l. ap (λ (x : List ℕ). getD x v 0) (no-bits ws₀ h (b .words)) ∙ zeros-at (length ws₀) v;
     summary = b .summary;
     words-len = refl;
     summary-len = refl;
   }
 
-  module _ {ws ss : List ℕ} {i : ℕ} (m : Marked cs ws₀ ss₀ ws ss i) where
-    one-more : (f : ℕ → ℕ) → f i ≡ getD cs i 0 → ((j : ℕ) → j ≢ i → f j ≡ bitAt ws j) → (j : ℕ) → j < i + 1 → f j ≡ getD cs j 0
-    one-more f e g j l = go (ℕ-discrete j i)
-      where
-        go : Dec (j ≡ i) → f j ≡ getD cs j 0
-        go (yes q) = subst (λ (n : ℕ). f n ≡ getD cs n 0) (sym q) e
-        go (no n) = g j n ∙ m .done j (omega arith)
+  module _ {ws ss : List ℕ} {w : ℕ} (m : Filled cs ws₀ ss₀ ws ss w) where
+    pub filled-fits : Fits ws ss
+    filled-fits = fits-kept (m .words-len) (m .summary-len)
 
-    pub marked-skip : i < length cs → getD cs i 0 ≡ 0 → Marked cs ws₀ ss₀ ws ss (i + 1)
-    marked-skip l e = record {
-      low = omega arith;
-      done = one-more (bitAt ws) (m .rest i (omega arith) ∙ sym e) (λ j n. refl);
-      rest = λ j h. m .rest j (omega arith);
+    pub filled-in : w * 64 < length cs → w < length ws
+    filled-in l = omega (arith, b .room, m .words-len)
+
+    pub filled-more : (l : w * 64 < length cs) (end x : ℕ) → end ≡ min (w * 64 + 64) (length cs) → Gathered cs (w * 64) end x
+        → (vs ts : List ℕ) → vs ≡ set ws w x → ts ≡ pick (eqb x 0) ss (withOn ss w) → Filled cs ws₀ ss₀ vs ts (w + 1)
+    filled-more l end x e g vs ts p q =
+        rw (p, q)
+        (record {
+          low = omega arith;
+          done = done-more;
+          rest = λ v k. getD-set-other ws w v x 0 (omega arith) ∙ m .rest v (omega arith);
+          summary = stored-summary ws ss w x (filled-in l) (omega (arith, filled-in l, filled-fits .room)) (m .rest w (omega arith)) (m .summary);
+          words-len = length-set ws w x ∙ m .words-len;
+          summary-len = stored-length ss w x ∙ m .summary-len;
+        })
+      where
+        here : (j : ℕ) → j / 64 ≡ w → bit x (j % 64) ≡ getD cs j 0
+        here j k =
+            let back : w * 64 + j % 64 ≡ j = omega (arith, k) in
+            ⊎-elim (λ (a : j < length cs). g .inside (j % 64) (omega (arith, e, back)) ∙ ap (λ (n : ℕ). getD cs n 0) back)
+            (λ (a : length cs ≤ j). g .past (j % 64) (omega (arith, e, back)) ∙ sym (List·getD-eq-default cs 0 a)) (lt-or-ge j (length cs))
+
+        done-more : (j : ℕ) → j < (w + 1) * 64 → bitAt (set ws w x) j ≡ getD cs j 0
+        done-more j k =
+            ⊎-elim (λ (a : j / 64 ≡ w). stored-here ws w x j (filled-in l) a ∙ here j a)
+            (λ (a : j / 64 ≢ w). stored-elsewhere ws w x j a ∙ m .done j (omega arith)) (eq-or-ne (j / 64) w)
+
+    pub filled-all : length cs ≤ w * 64 → Marked cs ws₀ ss₀ ws ss
+    filled-all l = record {
+      done = λ j k. m .done j (omega arith);
+      rest = λ j k.
+          ⊎-elim (λ (a : j < w * 64). m .done j a ∙ List·getD-eq-default cs 0 k) (λ (a : w * 64 ≤ j). bitAt-zero ws j (m .rest (j / 64) (omega arith))) (lt-or-ge j (w * 64));
       summary = m .summary;
       words-len = m .words-len;
       summary-len = m .summary-len;
     }
 
-    pub marked-fits : Fits ws ss
-    marked-fits = record { room = omega (arith, b .fits .room, m .words-len, m .summary-len); small = omega (arith, b .fits .small, m .words-len) }
-
-    pub marked-in : i < length cs → i < length ws * 64
-    marked-in l = omega (arith, b .room, m .words-len)
-
-    pub marked-on : i < length cs → (getD cs i 0 ≡ 0 → ⊥) → (vs ts : List ℕ) → vs ≡ withOn ws i → ts ≡ raised ws ss i → Marked cs ws₀ ss₀ vs ts (i + 1)
-    marked-on l e vs ts p q =
-        let h : i / 64 < length ws = omega (arith, marked-in l) in
-        let g : i / 64 / 64 < length ss = omega (arith, marked-fits .room) in
-        let one : getD cs i 0 ≡ 1 = omega (arith, b .flags i) in
-        rw (p, q)
-        (record {
-          low = omega arith;
-          done = one-more (bitAt (withOn ws i)) (on-here ws i h ∙ sym one) (λ j n. on-elsewhere ws i j h n);
-          rest = λ j x. on-elsewhere ws i j h (omega arith) ∙ m .rest j (omega arith);
-          summary = summary-set ws ss i h g (m .summary);
-          words-len = on-length ws i ∙ m .words-len;
-          summary-len = raised-length ws ss i ∙ m .summary-len;
-        })
-
   -- all are marked
-  module _ {ws ss : List ℕ} (m : Marked cs ws₀ ss₀ ws ss (length cs)) where
+  module _ {ws ss : List ℕ} (m : Marked cs ws₀ ss₀ ws ss) where
     none-active : (j : ℕ) → has (countsOf cs) j ≡ 0
     none-active j = omega (arith, has-at cs j, b .flags j)
 
@@ -95,7 +151,7 @@ module _ {cs ws₀ ss₀ : List ℕ} (b : Blank cs ws₀ ss₀) where
     same-size n = count-same (mark (flagsOf cs)) (bitAt ws) n (λ j. omega (arith, bits-are j, none-active j))
 
     pub begin-asks : Fits ws ss × Summary ws ss × (length cs ≤ length ws * 64)
-    begin-asks = (marked-fits m, m .summary, omega (arith, b .room, m .words-len))
+    begin-asks = (fits-kept (m .words-len) (m .summary-len), m .summary, omega (arith, b .room, m .words-len))
 
     pub begin-some : NoneBelow (bitAt ws) (length cs) → ⊥
     unfolding size
@@ -108,7 +164,7 @@ module _ {cs ws₀ ss₀ : List ℕ} (b : Blank cs ws₀ ss₀) where
       held = record {
         small = b .small;
         room = omega (arith, b .room, m .words-len);
-        fits = marked-fits m;
+        fits = fits-kept (m .words-len) (m .summary-len);
         bits = bits-are;
         summary = m .summary;
       };

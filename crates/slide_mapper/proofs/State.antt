@@ -10,10 +10,12 @@ use native.Mathlib.Omega.{arith}
 use lib.Dec.{ltb, leb, eqb}
 use lib.ListN.{length, getD, set, length-set, length-map, List·getD-map, List·getD-eq-default}
 use lib.Seq.{getD-set-same, getD-set-other, map-set-same, set-getD}
-use borrow.Author.Tests.{eq-eqb, ne-eqb, eqb-true, eqb-false}
+use borrow.Author.Tests.{eq-eqb, ne-eqb, eqb-true, eqb-false, lt-ltb, le-ltb}
 use Rattle.base.specs.Pick.{pick}
+use Rattle.base.specs.Lists.{hit}
 use Rattle.base.specs.Nearest.{LastBelow, NoneBelow, FirstFrom, NoneFrom}
 use Rattle.base.specs.Counting.{Same, Bump}
+use Rattle.base.proofs.Lists.{hit-same, hit-other}
 use Rattle.base.proofs.Order.{lt-or-ge}
 use Rattle.base.proofs.Counting.{count-most, count-up, count-next}
 use Rattle.base.proofs.Nearest.{last-unique, last-not-none, last-same, first-unique, first-same}
@@ -157,9 +159,10 @@ pub inserted-as : {cs ws ss : List ℕ} {at : Slide} {i : ℕ} {cs′ ws′ ss�
 inserted-as {cs} {ws} {ss} {at} {i} {cs′} {ws′} {ss′} {ws″} {ss″} {r} e f m =
     subst (λ (x : List ℕ). Inserted cs ws ss at i cs′ x ss″ r) (sym e) (subst (λ (x : List ℕ). Inserted cs ws ss at i cs′ ws′ x r) (sym f) m)
 
-pub deleted-as : {cs ws ss : List ℕ} {at : Slide} {i : ℕ} {cs′ ws′ ss′ ws″ ss″ : List ℕ} {r : Slide} → ws″ ≡ ws′ → ss″ ≡ ss′ → Deleted cs ws ss at i cs′ ws′ ss′ r → Deleted cs ws ss at i cs′ ws″ ss″ r
-deleted-as {cs} {ws} {ss} {at} {i} {cs′} {ws′} {ss′} {ws″} {ss″} {r} e f m =
-    subst (λ (x : List ℕ). Deleted cs ws ss at i cs′ x ss″ r) (sym e) (subst (λ (x : List ℕ). Deleted cs ws ss at i cs′ ws′ x r) (sym f) m)
+deleted-as : {cs ws ss : List ℕ} {at : Slide} {i : ℕ} {cs′ ws′ ss′ cs″ ws″ ss″ : List ℕ} {r : Slide} → cs″ ≡ cs′ → ws″ ≡ ws′ → ss″ ≡ ss′ → Deleted cs ws ss at i cs′ ws′ ss′ r → Deleted cs ws ss at i cs″ ws″ ss″ r
+deleted-as {cs} {ws} {ss} {at} {i} {cs′} {ws′} {ss′} {cs″} {ws″} {ss″} {r} d e f m =
+    subst (λ (x : List ℕ). Deleted cs ws ss at i x ws″ ss″ r) (sym d)
+    (subst (λ (x : List ℕ). Deleted cs ws ss at i cs′ x ss″ r) (sym e) (subst (λ (x : List ℕ). Deleted cs ws ss at i cs′ ws′ x r) (sym f) m))
 
 -- ---- insert
 
@@ -180,12 +183,16 @@ module _ {cs ws ss : List ℕ} {at : Slide} (k : Ready cs ws ss at) (i : ℕ) (l
   unfolding slideOf
   more-slide r p s e f = rw (more-counts, e, f)
 
-  pub inserted-again : 1 < w → Inserted cs ws ss at i more ws ss at
+  -- the bit is set in every case
+  pub more-held : Held more (withOn ws i) (raised ws ss i)
+  more-held = held-on (k .held) i (w + 2) l (omega arith)
+
+  pub inserted-again : 1 < w → Inserted cs ws ss at i more (withOn ws i) (raised ws ss i) at
   unfolding slideOf
   inserted-again h = record {
     counts = refl;
     slide = more-slide at (at .pivot .0) (at .shared) refl refl ∙ sym (insert-again (flagsOf cs) i (slideOf cs at) (omega (arith, counts-at cs i)));
-    held = held-level (k .held) i (w + 2) l (omega arith);
+    held = more-held;
   }
 
   -- a hash of the query
@@ -196,20 +203,20 @@ module _ {cs ws ss : List ℕ} {at : Slide} (k : Ready cs ws ss at) (i : ℕ) (l
     asked : getD (flagsOf cs) i false ≡ true
     asked = flags-at cs i ∙ eq-eqb (w % 2) 1 (omega arith)
 
-    pub inserted-query-low : i ≤ at .pivot .0 → Inserted cs ws ss at i more ws ss (record { pivot = at .pivot; shared = at .shared + 1 })
+    pub inserted-query-low : i ≤ at .pivot .0 → Inserted cs ws ss at i more (withOn ws i) (raised ws ss i) (record { pivot = at .pivot; shared = at .shared + 1 })
     unfolding slideOf
     inserted-query-low h = record {
       counts = refl;
       slide = more-slide (record { pivot = at .pivot; shared = at .shared + 1 }) (at .pivot .0) (at .shared + 1) refl refl ∙ sym (insert-query-low (flagsOf cs) i (slideOf cs at) none-yet asked h);
-      held = held-level (k .held) i (w + 2) l (omega arith);
+      held = more-held;
     }
 
-    pub inserted-query-high : at .pivot .0 < i → Inserted cs ws ss at i more ws ss at
+    inserted-query-high : at .pivot .0 < i → Inserted cs ws ss at i more (withOn ws i) (raised ws ss i) at
     unfolding slideOf
     inserted-query-high h = record {
       counts = refl;
       slide = more-slide at (at .pivot .0) (at .shared + 0) refl (omega arith) ∙ sym (insert-query-high (flagsOf cs) i (slideOf cs at) none-yet asked h);
-      held = held-level (k .held) i (w + 2) l (omega arith);
+      held = more-held;
     }
 
   -- another
@@ -220,10 +227,7 @@ module _ {cs ws ss : List ℕ} {at : Slide} (k : Ready cs ws ss at) (i : ℕ) (l
     unasked : getD (flagsOf cs) i false ≡ false
     unasked = flags-at cs i ∙ ne-eqb (w % 2) 1 (omega arith)
 
-    pub more-held : Held more (withOn ws i) (raised ws ss i)
-    more-held = held-on (k .held) i (w + 2) l (omega arith)
-
-    pub inserted-other-high : at .pivot .0 < i → Inserted cs ws ss at i more (withOn ws i) (raised ws ss i) at
+    inserted-other-high : at .pivot .0 < i → Inserted cs ws ss at i more (withOn ws i) (raised ws ss i) at
     unfolding slideOf
     inserted-other-high h = record {
       counts = refl;
@@ -273,6 +277,13 @@ module _ {cs ws ss : List ℕ} {at : Slide} (k : Ready cs ws ss at) (i : ℕ) (l
     pub inserted-lost : sharedBit more (at .pivot .0) ≤ at .shared
     unfolding slideOf sharedBit inQuery
     inserted-lost = rw (more-flags, more-counts) (insert-lost (flagsOf cs) (slideOf cs at) (k .slid) i (omega (arith, flags-length cs)) none-there unasked)
+
+  -- beyond the pivot, whatever the count
+  pub inserted-high : at .pivot .0 < i → Inserted cs ws ss at i more (withOn ws i) (raised ws ss i) at
+  inserted-high h =
+      ⊎-elim (λ (g : 1 < w). inserted-again g)
+      (λ (g : w ≤ 1). ⊎-elim (λ (z : w < 1). inserted-other-high (omega arith) h) (λ (z : 1 ≤ w). inserted-query-high (omega arith) h) (lt-or-ge w 1))
+      (lt-or-ge 1 w)
 
 -- ---- delete
 
@@ -426,6 +437,63 @@ module _ {cs ws ss : List ℕ} {at : Slide} (k : Ready cs ws ss at) (i : ℕ) (l
       unfolding slideOf inQuery
       deleted-some h none =
           delete-some (flagsOf cs) (slideOf cs at) (k .slid) i (omega (arith, flags-length cs)) (omega (arith, counts-at cs i)) gone-now unasked′ h (λ j m n. less-bits j ∙ none j m)
+
+  -- what the code stores, by the numbers that it computes from the count word, is each case's
+  module _ (t o : ℕ) (te : t ≡ pick (ltb (getD cs i 0) 2) 0 2) (oe : o ≡ hit (getD cs i 0) 2) where
+    none-taken : getD cs i 0 < 2 → t ≡ 0
+    unfolding pick
+    none-taken h = te ∙ rw (lt-ltb (getD cs i 0) 2 h)
+
+    one-taken : 1 < getD cs i 0 → t ≡ 2
+    unfolding pick
+    one-taken h = te ∙ rw (le-ltb (getD cs i 0) 2 h)
+
+    pub took-le : t ≤ getD cs i 0
+    took-le = ⊎-elim (λ (h : getD cs i 0 < 2). omega (arith, none-taken h)) (λ (h : 2 ≤ getD cs i 0). omega (arith, one-taken h)) (lt-or-ge (getD cs i 0) 2)
+
+    took-none : getD cs i 0 < 2 → set cs i (getD cs i 0 - t) ≡ cs
+    took-none h =
+        let e : getD cs i 0 - t ≡ getD cs i 0 = omega (arith, none-taken h) in
+        ap (set cs i) e ∙ set-getD cs i 0
+
+    pub took-one : 1 < getD cs i 0 → set cs i (getD cs i 0 - t) ≡ set cs i (getD cs i 0 - 2)
+    took-one h = ap (λ (n : ℕ). set cs i (getD cs i 0 - n)) (one-taken h)
+
+    stays : (a b : List ℕ) {xs : List ℕ} → getD cs i 0 ≢ 2 → xs ≡ pick (eqb o 1) a b → xs ≡ b
+    unfolding pick
+    stays a b n e = e ∙ ap (λ (m : ℕ). pick (eqb m 1) a b) (oe ∙ hit-other (getD cs i 0) 2 n)
+
+    pub leaves : (a b : List ℕ) {xs : List ℕ} → getD cs i 0 ≡ 2 → xs ≡ pick (eqb o 1) a b → xs ≡ a
+    unfolding pick
+    leaves a b q e = e ∙ ap (λ (m : ℕ). pick (eqb m 1) a b) (oe ∙ ap (λ (n : ℕ). hit n 2) q ∙ hit-same 2)
+
+    module _ {ws″ ss″ : List ℕ} (we : ws″ ≡ pick (eqb o 1) (withOff ws i) ws) (se : ss″ ≡ pick (eqb o 1) (lowered ws ss i) ss) where
+      kept-as : {cs′ : List ℕ} {r : Slide} → set cs i (getD cs i 0 - t) ≡ cs′ → getD cs i 0 ≢ 2 → Deleted cs ws ss at i cs′ ws ss r → Deleted cs ws ss at i (set cs i (getD cs i 0 - t)) ws″ ss″ r
+      kept-as e n d = deleted-as e (stays (withOff ws i) ws n we) (stays (lowered ws ss i) ss n se) d
+
+      pub gone-as : {r : Slide} → getD cs i 0 ≡ 2 → Deleted cs ws ss at i (set cs i (getD cs i 0 - 2)) (withOff ws i) (lowered ws ss i) r → Deleted cs ws ss at i (set cs i (getD cs i 0 - t)) ws″ ss″ r
+      gone-as q d = deleted-as (took-one (omega arith)) (leaves (withOff ws i) ws q we) (leaves (lowered ws ss i) ss q se) d
+
+      pub flat-none : getD cs i 0 < 2 → Deleted cs ws ss at i (set cs i (getD cs i 0 - t)) ws″ ss″ at
+      flat-none h = kept-as (took-none h) (omega arith) (deleted-none h)
+
+      pub flat-again : 3 < getD cs i 0 → Deleted cs ws ss at i (set cs i (getD cs i 0 - t)) ws″ ss″ at
+      flat-again h = kept-as (took-one (omega arith)) (omega arith) (deleted-again (omega arith) h)
+
+      pub flat-query : getD cs i 0 ≡ 3 → i ≤ at .pivot .0 → Deleted cs ws ss at i (set cs i (getD cs i 0 - t)) ws″ ss″ (record { pivot = at .pivot; shared = at .shared - 1 })
+      flat-query e h = kept-as (took-one (omega arith)) (omega arith) (deleted-query-low (omega arith) e h)
+
+      -- beyond the pivot, whatever the count
+      pub flat-high : at .pivot .0 < i → Deleted cs ws ss at i (set cs i (getD cs i 0 - t)) ws″ ss″ at
+      flat-high h =
+          ⊎-elim (λ (a : getD cs i 0 < 2). flat-none a)
+          (λ (a : 2 ≤ getD cs i 0).
+          ⊎-elim (λ (b : getD cs i 0 < 3). gone-as (omega arith) (deleted-other-high (omega arith) (omega arith) h))
+          (λ (b : 3 ≤ getD cs i 0).
+          ⊎-elim (λ (d : 3 < getD cs i 0). flat-again d)
+          (λ (d : getD cs i 0 ≤ 3). kept-as (took-one (omega arith)) (omega arith) (deleted-query-high (omega arith) (omega arith) h)) (lt-or-ge 3 (getD cs i 0)))
+          (lt-or-ge (getD cs i 0) 3))
+          (lt-or-ge (getD cs i 0) 2)
 
 -- ---- what a move leaves is ready for the next
 

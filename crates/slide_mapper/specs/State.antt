@@ -8,7 +8,7 @@ use lib.ListN.{length, getD, set}
 use Rattle.rules.specs.Moves.{insertRef, deleteRef}
 use Rattle.rules.specs.Moves as moves
 use Rattle.rules.specs.Ranks.{either, mark, has, size, Slid}
-use Rattle.summary_bits.specs.Bits.{bitAt}
+use Rattle.summary_bits.specs.Bits.{bit, bitAt}
 use Rattle.summary_bits.specs.Summary.{Fits, Summary}
 use Rattle.slide_mapper.specs.declared.Slide.{Slide}
 
@@ -34,6 +34,11 @@ pub record Held (cs ws ss : List ℕ) : Type 0 where
   pub fits : Fits ws ss
   pub bits : (j : ℕ) → bitAt ws j ≡ either (mark (flagsOf cs)) (has (countsOf cs)) j
   pub summary : Summary ws ss
+
+-- bit b of the word x is the count word from + b, of those before `end`, and 0 past them
+pub record Gathered (cs : List ℕ) (from end x : ℕ) : Type 0 where
+  pub inside : (b : ℕ) → from + b < end → bit x b ≡ getD cs (from + b) 0
+  pub past : (b : ℕ) → end ≤ from + b → bit x b ≡ 0
 
 -- before the first item: flags in the count words and no count, a query that is not empty, and no bit
 pub record Blank (cs ws ss : List ℕ) : Type 0 where

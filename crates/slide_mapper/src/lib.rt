@@ -2,9 +2,12 @@
 // lent lists: a count word for each coordinate, twice the count of active reference items plus 1 where the hash is in the query; the
 // union's bits with their summary; and by value the pivot with the shared count.
 ghost use mathlib.Core.Path.{_≡_};
-ghost use Prim.Native.Nat.{_+_, _^_, _<_};
+ghost use Prim.Native.Nat.{ℕ, _+_, _^_, _≤_, _<_, min};
+ghost use lib.Dec.{ltb};
 ghost use lib.ListN.{length, getD};
-ghost use Rattle.slide_mapper.specs.State.{Blank, Ready, Inserted, Deleted, sharedBit};
+ghost use Rattle.base.specs.Pick.{pick};
+ghost use Rattle.base.specs.Lists.{hit};
+ghost use Rattle.slide_mapper.specs.State.{Gathered, Blank, Ready, Inserted, Deleted, sharedBit};
 use base::Coord;
 use summary_bits::Found;
 
@@ -14,20 +17,39 @@ pub struct Slide {
     pub shared: u32,
 }
 
-// The state before the first item: no hash is active, so the union is the query, whose flags stand in the count words.
+fn least(a: usize, b: usize) -> usize
+    ensures { λ r. ⌜ r ≡ min a b ⌝ }
+{
+    if a < b { a } else { b }
+}
+
+// The count words from `from` to `end`, each 0 or 1, as the bits of one word.
+fn gathered(counts: &[u32], from: usize, end: usize) -> u64
+    requires { ⌜ (from ≤ end) × (end ≤ from + 64) × (end ≤ length (now counts)) × ((j : ℕ) → getD (now counts) j 0 ≤ 1) ⌝ }
+    ensures { λ r. ⌜ Gathered (now (counts .entry)) from end r ⌝ }
+{
+    let mut word: u64 = 0;
+    let mut i = from;
+    while i < end {
+        word = word | ((counts[i] as u64) << (i - from));
+        i += 1;
+    }
+    word
+}
+
+// The state before the first item: no hash is active, so the union is the query, whose flags stand in the count words. Its bits are stored
+// a word at a time, with no branch on a flag.
 pub fn begin(counts: &[u32], words: &mut [u64], summary: &mut [u64]) -> Slide
     requires { ⌜ Blank (now counts) (now words) (now summary) ⌝ }
     ensures { λ r. ⌜ (r .shared ≡ 0) × Ready (now (counts .entry)) (now (words .exit)) (now (summary .exit)) r ⌝ }
 {
     let n = counts.len();
-    let mut i = 0;
-    while i < n {
-        if counts[i] == 0 {
-            i += 1;
-            continue;
-        }
-        summary_bits::set(words, summary, Coord(i as u32));
-        i += 1;
+    let mut w = 0;
+    while w * 64 < n {
+        let from = w * 64;
+        let end = least(from + 64, n);
+        summary_bits::store(words, summary, w, gathered(counts, from, end));
+        w += 1;
     }
     match summary_bits::prev_set_before(words, summary, Coord(n as u32)) {
         Found::At(last) => Slide {
@@ -53,6 +75,23 @@ fn shared_bit(counts: &[u32], coord: Coord) -> u32
     word % 2
 }
 
+// What a delete takes from a count word: one count, where there is one.
+fn taken(word: u32) -> u32
+    ensures { λ r. ⌜ r ≡ pick (ltb word 2) 0 2 ⌝ }
+{
+    if word < 2 { // no count to lower
+        return 0;
+    }
+    2
+}
+
+// 1 where the delete takes the hash out of the union, which is at the last count of a hash that is not in the query; else 0.
+fn one_if_last(word: u32) -> u64
+    ensures { λ r. ⌜ r ≡ hit word 2 ⌝ }
+{
+    if word == 2 { 1 } else { 0 }
+}
+
 pub fn insert_ref(
     counts: &mut [u32],
     words: &mut [u64],
@@ -66,13 +105,10 @@ pub fn insert_ref(
     let i = coord.0 as usize;
     let word = counts[i];
     counts[i] = word + 2;
+    // Set also where it is set already: a test of the count is guessed wrong too often.
+    summary_bits::set(words, summary, coord);
     let pivot = at.pivot;
-    // Most steps lie beyond the pivot; there only a hash that is new to the union is to be marked.
     if pivot.0 < coord.0 {
-        if word != 0 {
-            return at;
-        }
-        summary_bits::set(words, summary, coord);
         return at;
     }
     if 1 < word {
@@ -85,7 +121,6 @@ pub fn insert_ref(
             shared: shared + 1,
         };
     }
-    summary_bits::set(words, summary, coord);
     // Tested before the pivot moves: the old pivot leaves the k smallest.
     let lost = shared_bit(counts, pivot);
     match summary_bits::prev_set_before(words, summary, pivot) {
@@ -109,16 +144,14 @@ pub fn delete_ref(
 {
     let i = coord.0 as usize;
     let word = counts[i];
-    if word < 2 { // no count to lower
-        return at;
-    }
-    counts[i] = word - 2;
+    counts[i] = word - taken(word);
+    // By a number and with no branch, as the bit of an insert.
+    summary_bits::clear_if(words, summary, coord, one_if_last(word));
     let pivot = at.pivot;
     if pivot.0 < coord.0 {
-        if word != 2 {
-            return at;
-        }
-        summary_bits::clear(words, summary, coord);
+        return at;
+    }
+    if word < 2 {
         return at;
     }
     if 3 < word {
@@ -131,7 +164,6 @@ pub fn delete_ref(
             shared: shared - 1,
         };
     }
-    summary_bits::clear(words, summary, coord);
     match summary_bits::next_set_after(words, summary, pivot) {
         Found::At(after) => {
             let next = Coord(after as u32);

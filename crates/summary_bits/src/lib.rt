@@ -2,7 +2,9 @@
 // the word is not 0, so that a search which finds nothing in its own word passes over 64 empty words at a time.
 ghost use mathlib.Core.Path.{_≡_};
 ghost use Prim.Native.Nat.{_*_, _+_, _^_, _<_, _≤_};
-ghost use lib.ListN.{length, getD};
+ghost use lib.Dec.{eqb};
+ghost use lib.ListN.{length, getD, set};
+ghost use Rattle.base.specs.Pick.{pick};
 ghost use Rattle.base.specs.Nearest.{LastBelow, FirstFrom};
 ghost use Rattle.summary_bits.specs.Bits.{bitAt, withOn, withOff};
 ghost use Rattle.summary_bits.specs.Summary.{Fits, Summary, raised, lowered};
@@ -43,6 +45,33 @@ pub fn clear(words: &mut [u64], summary: &mut [u64], coord: Coord)
     if left == 0 {
         let s = w / 64;
         summary[s] = summary[s] & !(1u64 << (w % 64));
+    }
+}
+
+// Clears the bit where `one` is 1, and changes nothing where it is 0: for a caller whose test would be guessed wrong too often to branch on.
+pub fn clear_if(words: &mut [u64], summary: &mut [u64], coord: Coord, one: u64)
+    requires { ⌜ Fits (now words) (now summary) × Summary (now words) (now summary) × (coord .0 < length (now words) * 64) × (one ≤ 1) ⌝ }
+    ensures { λ _. ⌜ (now (words .exit) ≡ pick (eqb one 1) (withOff (now (words .entry)) (coord .0)) (now (words .entry))) × (now (summary .exit) ≡ pick (eqb one 1) (lowered (now (words .entry)) (now (summary .entry)) (coord .0)) (now (summary .entry))) ⌝ }
+{
+    let index = coord.0 as usize;
+    let w = index / 64;
+    let left = words[w] & !(one << (index % 64));
+    words[w] = left;
+    if left == 0 {
+        let block = w / 64;
+        summary[block] = summary[block] & !(1u64 << (w % 64));
+    }
+}
+
+// Stores word `w`, the bits of 64 coordinates at once, where none of them was set.
+pub fn store(words: &mut [u64], summary: &mut [u64], w: usize, word: u64)
+    requires { ⌜ Fits (now words) (now summary) × (w < length (now words)) ⌝ }
+    ensures { λ _. ⌜ (now (words .exit) ≡ set (now (words .entry)) w word) × (now (summary .exit) ≡ pick (eqb word 0) (now (summary .entry)) (withOn (now (summary .entry)) w)) ⌝ }
+{
+    words[w] = word;
+    if word != 0 {
+        let s = w / 64;
+        summary[s] = summary[s] | (1u64 << (w % 64));
     }
 }
 

@@ -73,7 +73,9 @@ enum-told-2 : tie.Need-enum-told-2
 enum-told-2 c = search needs
 
 check-members-requires : tie.Need-check-members-requires
-check-members-requires c κs = (sizes-fine (asked (k₂ c)) (fine₁ (c .before .before .before)), orders-fine (asked (k₂ c)) (fine₂ c) .2)
+check-members-requires c κs =
+    let o = orders-fine (asked (k₂ c)) (fine₂ c) in
+    (sizes-fine (asked (k₂ c)) (fine₁ (c .before .before .before)), o .1, o .2)
 
 enum-known-members : tie.Need-enum-known-members
 enum-known-members c = search needs
