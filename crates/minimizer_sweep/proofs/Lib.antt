@@ -2,15 +2,11 @@
 
 -- Checking: the chain of checks, and what a fine one tells
 pub mod Checking
--- Moving: from a stop to the next, by the positions
-pub mod Moving
--- Holding: which items are active after a move
-pub mod Holding
--- Running: the best of what is scored so far and of the stops to come is the best of all
-pub mod Running
--- Sweeping: the first stop, and the best of all from the best with it
-pub mod Sweeping
--- Positions: items at the same positions have the same stops
-pub mod Positions
--- Meaning: the sweep over numbers and positions finds the rules' best
-pub mod Meaning
+-- Answering: early nones, and the place of what was found
+pub mod Answering
+-- Whole: the promise of the call
+pub mod Whole
+-- Unique: the contract determines the answer and every lent list
+pub mod Unique
+-- Refuted: wrong sweeps that the contract refuses
+pub mod Refuted

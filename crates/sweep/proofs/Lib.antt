@@ -6,3 +6,5 @@ pub mod Upto
 pub mod Active
 -- Numbers: scoring coordinate numbers is scoring hashes
 pub mod Numbers
+-- Beginning: the mapper before its first item, from marked count words
+pub mod Beginning

@@ -34,7 +34,7 @@ member-number coords rc h m (x ∷ xs) a =
     (λ (e : h ≢ x). ne-eqb (numberOf coords h) (numberOf coords x) (λ q. e (number-only coords rc h x m (a .0) q)) ∙ sym (ne-eqb h x e)) (eq-or-ne h x)) ∙
     ap (λ (b : Bool). eqb h x || b) (member-number coords rc h m xs (a .1))
 
-all-numbers : (coords : List ℕ) → StrictAsc coords → (hs : List ℕ) → All (λ x. member x coords ≡ true) hs → All (λ i. i < length coords) (map (numberOf coords) hs)
+pub all-numbers : (coords : List ℕ) → StrictAsc coords → (hs : List ℕ) → All (λ x. member x coords ≡ true) hs → All (λ i. i < length coords) (map (numberOf coords) hs)
 all-numbers coords rc [] a = tt
 all-numbers coords rc (x ∷ xs) a = (number-fits coords rc x (a .0), all-numbers coords rc xs (a .1))
 

@@ -4,3 +4,5 @@
 pub mod Work
 -- Active: query and active items as coordinate numbers
 pub mod Active
+-- Beginning: work lists at their needed sizes, and the mapper before its first item
+pub mod Beginning

@@ -1,5 +1,5 @@
-// What both sweeps share: the checks of their query, table and work lists, the clearing of these lists, and the way from a best score to
-// the answer.
+// What both sweeps share: the checks of their query, table and work lists, the clearing of these lists, the mapper before its first item,
+// and the way from a best score to the answer.
 ghost use mathlib.Core.Path.{_≡_};
 ghost use Prim.Native.Nat.{_+_, _^_, _≤_, _<_};
 ghost use lib.ListN.{length, replicate};
@@ -7,6 +7,7 @@ ghost use Rattle.base.specs.Verdicts.{refuse};
 ghost use Rattle.rules.specs.Checks.{sweepOrders, sweepTable, sweepNeeds};
 ghost use Rattle.rules.specs.Place.{settled};
 ghost use Rattle.sweep.specs.Work.{Cleared, Fits};
+ghost use Rattle.sweep.specs.Beginning.{Clear, Given, Begins};
 use base::Base;
 use base::Best;
 use base::Estimate;
@@ -15,6 +16,7 @@ use base::Refusal;
 use base::Stats;
 use base::SweepAnswer;
 use base::Verdict;
+use slide_mapper::Slide;
 
 // A refusal, of a place that was found as an index.
 pub fn refused(number: u8, place: usize) -> Verdict
@@ -107,6 +109,33 @@ pub fn clear(
     base::clear_words(summary, s);
 }
 
+// The mapper before its first item, and how many coordinates there are.
+pub struct Begun {
+    pub coords: u32,
+    pub at: Slide,
+}
+
+// Numbers the hashes of query and items, and begins with the query alone. The numbers of the items stand in `coords` behind the query's.
+pub fn prepare(
+    query: &[u64],
+    hashes: &[u64],
+    keys: &mut [u64],
+    counts: &mut [u32],
+    coords: &mut [u32],
+    words: &mut [u64],
+    summary: &mut [u64],
+) -> Begun
+    requires { ⌜ Given (now query) (now hashes) × Clear (length (now query) + length (now hashes)) (now keys) (now counts) (now coords) (now words) (now summary) ⌝ }
+    ensures { λ r. ⌜ Begins (now (query .entry)) (now (hashes .entry)) (now (counts .exit)) (now (coords .exit)) (now (words .exit)) (now (summary .exit)) r ⌝ }
+{
+    let n = coordinates::coordinates(query, hashes, keys, counts, coords);
+    let at = slide_mapper::begin(counts, words, summary);
+    Begun {
+        coords: n as u32,
+        at,
+    }
+}
+
 // The place of a best score, unless the estimate's upper bound is below the minimum; a NaN never rejects. Sums of positions pass 32
 // bits.
 pub fn settle(
@@ -134,12 +163,15 @@ pub fn settle(
     let first = best.first;
     let last = best.last;
     let start = (first.0 + last.0) / 2;
+    let past = start + length as u64;
+    let end = past - 1;
+    let size = size as u32;
     SweepAnswer::Placed(
         Place {
             start: Base(start),
-            end: Base(start + length as u64 - 1),
+            end: Base(end),
             shared,
-            size: size as u32,
+            size,
             estimate,
         },
         stats,

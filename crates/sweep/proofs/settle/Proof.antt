@@ -9,17 +9,17 @@ use Rattle.sweep.proofs.settle.Tie as tie
 cast-i : tie.Need-cast-i
 cast-i c = search needs
 
-mul-t15 : tie.Need-mul-t15
-mul-t15 c = search needs
-
-shared-slice-read-t17 : tie.Need-shared-slice-read-t17
-shared-slice-read-t17 c = search needs
-
 mul-t18 : tie.Need-mul-t18
 mul-t18 c = search needs
 
 shared-slice-read-t20 : tie.Need-shared-slice-read-t20
 shared-slice-read-t20 c = search needs
+
+mul-t21 : tie.Need-mul-t21
+mul-t21 c = search needs
+
+shared-slice-read-t23 : tie.Need-shared-slice-read-t23
+shared-slice-read-t23 c = search needs
 
 returns : tie.Need-returns
 unfolding settled estimateAt pick
@@ -28,14 +28,14 @@ returns c = simp (c .if1 .taken)
 add-start : tie.Need-add-start
 add-start c = search needs
 
-add-t24 : tie.Need-add-t24
-add-t24 c = search needs
+add-past : tie.Need-add-past
+add-past c = search needs
 
-sub-t25 : tie.Need-sub-t25
-sub-t25 c = search needs
+sub-end : tie.Need-sub-end
+sub-end c = search needs
 
-cast-t27 : tie.Need-cast-t27
-cast-t27 c = search needs
+cast-size : tie.Need-cast-size
+cast-size c = search needs
 
 returns-2 : tie.Need-returns-2
 unfolding settled estimateAt startOf placeOf base pick
@@ -46,13 +46,13 @@ settle-spec =
     tie.close
     (tie.spec
     cast-i
-    mul-t15
-    shared-slice-read-t17
     mul-t18
     shared-slice-read-t20
+    mul-t21
+    shared-slice-read-t23
     returns
     add-start
-    add-t24
-    sub-t25
-    cast-t27
+    add-past
+    sub-end
+    cast-size
     returns-2)

@@ -1,0 +1,2 @@
+-- Working: the work for one range
+pub mod Working
