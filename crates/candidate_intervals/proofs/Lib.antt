@@ -1,0 +1,10 @@
+pub mod Checking
+pub mod Holding
+pub mod Cutting
+pub mod Events
+pub mod Sweeping
+pub mod Gathering
+pub mod Balance
+pub mod Whole
+pub mod Unique
+pub mod Refuted

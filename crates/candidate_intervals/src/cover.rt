@@ -1,0 +1,150 @@
+// The positions that enough intervals cover, from the keys of their starts and of their ends, each list in order. Where i starts and j ends
+// are passed, i - j intervals are active; each contig begins and ends with none, so no count is set back.
+ghost use mathlib.Core.Path.{_≡_};
+ghost use Prim.Native.Nat.{_≤_, _<_, min};
+ghost use lib.ListN.{length};
+ghost use Rattle.rules.specs.Finder.{covered, joinAll};
+ghost use Rattle.candidate_window.specs.Work.{rangeOf, Room, Listed};
+ghost use Rattle.candidate_intervals.specs.Cover.{Between, stretch, nextKey, Extending, Extended, Intervals, eventsOf, Swept};
+use candidate_window::candidates::L1Candidate;
+use candidate_window::candidates::joined;
+use candidate_window::candidates::joins;
+use candidate_window::candidates::put;
+use candidate_window::hits::at_of;
+use candidate_window::hits::contig_of;
+
+// How many ranges have begun, and the last of them, which is not written yet.
+pub struct Held {
+    pub count: usize,
+    pub range: L1Candidate,
+}
+
+fn lesser(x: u64, y: u64) -> u64
+    ensures { λ r. ⌜ r ≡ min x y ⌝ }
+{
+    if x < y { x } else { y }
+}
+
+// The next key: ends are left wherever starts are.
+fn next(opens: &[u64], closes: &[u64], i: usize, j: usize) -> u64
+    requires { ⌜ j < length (now closes) ⌝ }
+    ensures { λ r. ⌜ r ≡ nextKey (now (opens .entry)) (now (closes .entry)) i j ⌝ }
+{
+    let end = closes[j];
+    if opens.len() <= i {
+        return end;
+    }
+    lesser(opens[i], end)
+}
+
+// The positions from a key to before the next.
+fn between(key: u64, next: u64) -> L1Candidate
+    requires { ⌜ Between key next ⌝ }
+    ensures { λ r. ⌜ rangeOf r ≡ stretch key next ⌝ }
+{
+    let contig = contig_of(key);
+    let start = at_of(key);
+    let end = at_of(next) - 1;
+    L1Candidate { contig, start, end }
+}
+
+// Adds the positions from a key to before the next, where enough intervals are active. A range is held until one comes that does not touch
+// it, so nothing is written that is not in the answer.
+fn extend(
+    seqs: &mut [u32],
+    lows: &mut [u32],
+    highs: &mut [u32],
+    held: Held,
+    minimum: usize,
+    active: usize,
+    key: u64,
+    next: u64,
+) -> Held
+    requires { ⌜ Extending minimum active key next held (now seqs) (now lows) (now highs) ⌝ }
+    ensures { λ r. ⌜ Extended minimum active key next held (now (seqs .entry)) (now (lows .entry)) (now (highs .entry)) (now (seqs .exit)) (now (lows .exit)) (now (highs .exit)) r ⌝ }
+{
+    if active < minimum {
+        return held;
+    }
+    let count = held.count;
+    let range = held.range;
+    let c = between(key, next);
+    if count == 0 {
+        return Held { count: 1, range: c };
+    }
+    if joins(range, c, 1) {
+        let both = joined(range, c);
+        return Held { count, range: both };
+    }
+    put(seqs, lows, highs, count - 1, range);
+    Held {
+        count: count + 1,
+        range: c,
+    }
+}
+
+// Goes over the positions where an interval starts or ends: what is covered up to a position is added, then all keys there are passed.
+fn sweep(
+    opens: &[u64],
+    closes: &[u64],
+    minimum: usize,
+    seqs: &mut [u32],
+    lows: &mut [u32],
+    highs: &mut [u32],
+) -> Held
+    requires { ⌜ Intervals (now opens) (now closes) × Room (now opens) (now seqs) (now lows) (now highs) × (0 < minimum) ⌝ }
+    ensures { λ r. ⌜ Swept (joinAll 1 (covered minimum (eventsOf (now (opens .entry)) (now (closes .entry))))) (length (now (opens .entry))) (now (seqs .entry)) (now (lows .entry)) (now (highs .entry)) (now (seqs .exit)) (now (lows .exit)) (now (highs .exit)) r ⌝ }
+{
+    let n = closes.len();
+    let range = L1Candidate {
+        contig: 0,
+        start: 0,
+        end: 0,
+    };
+    let mut held = Held { count: 0, range };
+    let mut key = 0;
+    let mut i = 0;
+    let mut j = 0;
+    'positions: while j < n {
+        let at = next(opens, closes, i, j);
+        held = extend(seqs, lows, highs, held, minimum, i - j, key, at);
+        'ends: while j < n {
+            let x = closes[j];
+            if x != at {
+                break 'ends;
+            }
+            j += 1;
+        }
+        'starts: while i < n {
+            let x = opens[i];
+            if x != at {
+                break 'starts;
+            }
+            i += 1;
+        }
+        key = at;
+    }
+    held
+}
+
+// Lists the ranges, and returns how many they are.
+pub fn list(
+    opens: &[u64],
+    closes: &[u64],
+    minimum: usize,
+    seqs: &mut [u32],
+    lows: &mut [u32],
+    highs: &mut [u32],
+) -> usize
+    requires { ⌜ Intervals (now opens) (now closes) × Room (now opens) (now seqs) (now lows) (now highs) × (0 < minimum) ⌝ }
+    ensures { λ r. ⌜ Listed (joinAll 1 (covered minimum (eventsOf (now (opens .entry)) (now (closes .entry))))) (now (seqs .entry)) (now (lows .entry)) (now (highs .entry)) (now (seqs .exit)) (now (lows .exit)) (now (highs .exit)) r × (r ≤ length (now (opens .entry))) ⌝ }
+{
+    let held = sweep(opens, closes, minimum, seqs, lows, highs);
+    let count = held.count;
+    if count == 0 {
+        return 0;
+    }
+    let range = held.range;
+    put(seqs, lows, highs, count - 1, range);
+    count
+}

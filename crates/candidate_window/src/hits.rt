@@ -1,0 +1,92 @@
+// The kept hits as keys: contig × 2^32 + position, so that keys ascend by contig, then by position.
+ghost use mathlib.Core.Path.{_≡_};
+ghost use lib.ListN.{drop};
+ghost use lib.Seq.{paste};
+ghost use Rattle.base.specs.Sort.{sortOf};
+ghost use Rattle.keys.specs.Lists.{Fronted};
+ghost use Rattle.rules.specs.Finder.{kept, keyOf, keyContig, keyAt, keysOf};
+ghost use Rattle.candidate_window.specs.Work.{Grouped, GroupAt};
+
+pub fn key_of(contig: u32, at: u32) -> u64
+    ensures { λ r. ⌜ r ≡ keyOf contig at ⌝ }
+{
+    (contig as u64) * 4294967296 + at as u64
+}
+
+pub fn contig_of(key: u64) -> u32
+    ensures { λ r. ⌜ r ≡ keyContig key ⌝ }
+{
+    (key / 4294967296) as u32
+}
+
+pub fn at_of(key: u64) -> u32
+    ensures { λ r. ⌜ r ≡ keyAt key ⌝ }
+{
+    (key % 4294967296) as u32
+}
+
+// Puts the keys of the `count` hits that begin at `from` at n.
+fn put_group(
+    contigs: &[u32],
+    positions: &[u32],
+    keys: &mut [u64],
+    from: usize,
+    count: usize,
+    n: usize,
+)
+    requires { ⌜ GroupAt (now contigs) (now positions) (now keys) from count n ⌝ }
+    ensures { λ _. ⌜ now (keys .exit) ≡ paste (now (keys .entry)) n (drop from (keysOf (now (contigs .entry)) (now (positions .entry)))) count ⌝ }
+{
+    let mut k = 0;
+    while k < count {
+        let contig = contigs[from + k];
+        let at = positions[from + k];
+        keys[n + k] = key_of(contig, at);
+        k += 1;
+    }
+}
+
+// Puts the keys of the groups shorter than the threshold at the front, and returns how many they are.
+fn fill(
+    groups: &[u32],
+    contigs: &[u32],
+    positions: &[u32],
+    threshold: u64,
+    keys: &mut [u64],
+) -> usize
+    requires { ⌜ Grouped (now groups) (now contigs) (now positions) (now keys) ⌝ }
+    ensures { λ r. ⌜ Fronted (kept threshold (now (groups .entry)) (keysOf (now (contigs .entry)) (now (positions .entry)))) (now (keys .entry)) (now (keys .exit)) r ⌝ }
+{
+    let mut n = 0;
+    let mut at = 0;
+    let mut g = 0;
+    while g < groups.len() {
+        let group = groups[g];
+        let count = group as usize;
+        g += 1;
+        if (group as u64) < threshold {
+            put_group(contigs, positions, keys, at, count, n);
+            n += count;
+            at += count;
+            continue;
+        }
+        at += count;
+    }
+    n
+}
+
+// The same, sorted.
+pub fn gather(
+    groups: &[u32],
+    contigs: &[u32],
+    positions: &[u32],
+    threshold: u64,
+    keys: &mut [u64],
+) -> usize
+    requires { ⌜ Grouped (now groups) (now contigs) (now positions) (now keys) ⌝ }
+    ensures { λ r. ⌜ Fronted (sortOf (kept threshold (now (groups .entry)) (keysOf (now (contigs .entry)) (now (positions .entry))))) (now (keys .entry)) (now (keys .exit)) r ⌝ }
+{
+    let n = fill(groups, contigs, positions, threshold, keys);
+    keys::sort(&mut keys[..n]);
+    n
+}
