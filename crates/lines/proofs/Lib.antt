@@ -1,0 +1,2 @@
+-- Writing: bytes behind bytes, and a word byte by byte
+pub mod Writing

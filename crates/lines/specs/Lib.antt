@@ -1,0 +1,2 @@
+-- Written: bytes written into an array at an offset
+pub mod Written
