@@ -1,0 +1,2 @@
+-- Within: what `run` writes stands in its output
+pub mod Within

@@ -1,0 +1,10 @@
+-- Window: the interval sweep does not look at the window
+pub mod Window
+-- Roomy: the program's work lists are never too short
+pub mod Roomy
+-- Fronts: the job at the fronts of the filled lists is the rules'
+pub mod Fronts
+-- Running: the promise of `run`
+pub mod Running
+-- Printed: what the printed bytes tell
+pub mod Printed
