@@ -14,6 +14,34 @@ pub enum Mode {
     Interval,
 }
 
+/// The five calls.
+#[derive(Clone, Copy, Debug, PartialEq, Eq)]
+pub enum Kind {
+    Script,
+    Sweep(Mode),
+    Finder(Mode),
+}
+
+impl Kind {
+    pub const ALL: [Kind; 5] = [
+        Kind::Script,
+        Kind::Sweep(Mode::Minimizer),
+        Kind::Sweep(Mode::Interval),
+        Kind::Finder(Mode::Minimizer),
+        Kind::Finder(Mode::Interval),
+    ];
+
+    pub fn name(self) -> &'static str {
+        match self {
+            Kind::Script => "script",
+            Kind::Sweep(Mode::Minimizer) => "minimizer sweep",
+            Kind::Sweep(Mode::Interval) => "interval sweep",
+            Kind::Finder(Mode::Minimizer) => "minimizer finder",
+            Kind::Finder(Mode::Interval) => "interval finder",
+        }
+    }
+}
+
 #[derive(Clone, Debug, PartialEq)]
 pub struct ScriptCall {
     pub query: Vec<u64>,

@@ -1,7 +1,7 @@
 //! One case: a library call run on the original and on the model, and what came of it.
 
 use crate::call::{
-    Best, FinderAnswer, FinderCall, Mode, ScriptAnswer, ScriptCall, SweepAnswer, SweepCall,
+    Best, FinderAnswer, FinderCall, Kind, Mode, ScriptAnswer, ScriptCall, SweepAnswer, SweepCall,
 };
 use crate::{model, original};
 
@@ -27,18 +27,16 @@ pub const SMALL_PATIENCE: Patience = 100_000;
 pub const LIMIT_PATIENCE: Patience = 200_000_000;
 
 impl Case {
-    pub fn call_name(&self) -> &'static str {
+    pub fn kind(&self) -> Kind {
         match self {
-            Case::Script(_) => "script",
-            Case::Sweep(call) => match call.mode {
-                Mode::Minimizer => "minimizer sweep",
-                Mode::Interval => "interval sweep",
-            },
-            Case::Finder(call) => match call.mode {
-                Mode::Minimizer => "minimizer finder",
-                Mode::Interval => "interval finder",
-            },
+            Case::Script(_) => Kind::Script,
+            Case::Sweep(call) => Kind::Sweep(call.mode),
+            Case::Finder(call) => Kind::Finder(call.mode),
         }
+    }
+
+    pub fn call_name(&self) -> &'static str {
+        self.kind().name()
     }
 
     pub fn judge(&self, patience: Patience) -> Judged {

@@ -2,34 +2,38 @@
 
 use std::time::Instant;
 
-use crate::call::{FinderCall, Mode, ScriptCall, SweepCall};
+use crate::call::{FinderCall, Kind, Mode, ScriptCall, SweepCall};
 use crate::case::{Case, SMALL_PATIENCE};
 use crate::diff::Tally;
 use crate::model::needs;
 
-/// Judges all cases of one domain, up to the first difference; answers whether there was none.
-type Part = fn(&mut Tally) -> bool;
+/// Is handed one case after the other, as long as it answers true.
+pub type Visit<'a> = &'a mut dyn FnMut(&Case) -> bool;
 
 /// Stops at the first difference and answers whether there was none.
 pub fn run() -> bool {
-    let parts: [(&str, Part); 5] = [
-        ("script", scripts),
-        ("minimizer sweep", minimizer_sweeps),
-        ("interval sweep", interval_sweeps),
-        ("minimizer finder", minimizer_finders),
-        ("interval finder", interval_finders),
-    ];
-    for (name, part) in parts {
+    for kind in Kind::ALL {
         let began = Instant::now();
         let mut tally = Tally::default();
-        println!("{name}");
-        let all_same = part(&mut tally);
+        println!("{}", kind.name());
+        let all_same = all(kind, &mut |case| tally.judge(case, SMALL_PATIENCE));
         tally.print(began.elapsed().as_secs_f64());
         if !all_same {
             return false;
         }
     }
     true
+}
+
+/// All cases of the domain of one call; answers whether every visit answered true.
+pub fn all(kind: Kind, visit: Visit<'_>) -> bool {
+    match kind {
+        Kind::Script => scripts(visit),
+        Kind::Sweep(Mode::Minimizer) => minimizer_sweeps(visit),
+        Kind::Sweep(Mode::Interval) => interval_sweeps(visit),
+        Kind::Finder(Mode::Minimizer) => minimizer_finders(visit),
+        Kind::Finder(Mode::Interval) => interval_finders(visit),
+    }
 }
 
 /// Every list of exactly `length` letters, one after the other, as long as `visit` answers true.
@@ -71,7 +75,7 @@ fn pairs<A: Copy, B: Copy>(left: &[A], right: &[B]) -> Vec<(A, B)> {
 }
 
 /// Coordinates 1 to 3 with scripts of up to 6 steps, 1 to 4 with up to 5; every query that is not empty.
-fn scripts(tally: &mut Tally) -> bool {
+fn scripts(visit: Visit<'_>) -> bool {
     [(3, 6), (4, 5)].iter().all(|&(coords, most)| {
         let queries = subsets(coords);
         let indexes: Vec<u32> = (0..coords as u32).collect();
@@ -79,7 +83,7 @@ fn scripts(tally: &mut Tally) -> bool {
         queries[1..].iter().all(|query| {
             (0..=most).all(|length| {
                 words(&steps, length, &mut |word| {
-                    tally.judge(&script(query, coords, word), SMALL_PATIENCE)
+                    visit(&script(query, coords, word))
                 })
             })
         })
@@ -104,7 +108,7 @@ type Settings = (u32, u32, u32);
 type Item = (u64, u32, u32);
 
 /// Up to 3 items at 0 to 4 with hashes 1 to 3 and all settings; 4 items with W = 1, 2 and 3.
-fn minimizer_sweeps(tally: &mut Tally) -> bool {
+fn minimizer_sweeps(visit: Visit<'_>) -> bool {
     let settings: [Settings; 8] = [
         (1, 1, 0),
         (1, 1, 1),
@@ -121,12 +125,12 @@ fn minimizer_sweeps(tally: &mut Tally) -> bool {
         .collect();
     let all = Domain::new(Mode::Minimizer, subsets(3), ranges(5));
     let few = Domain::new(Mode::Minimizer, subsets(3)[1..].to_vec(), ranges(4));
-    (0..=3).all(|length| all.judge(tally, &settings, &items, length))
-        && few.judge(tally, &settings[1..4], &items, 4)
+    (0..=3).all(|length| all.visit(visit, &settings, &items, length))
+        && few.visit(visit, &settings[1..4], &items, 4)
 }
 
 /// Up to 2 intervals with hashes 1 to 3 and 3 with hashes 1 and 2, starts 0 to 3, ends 0 to 4.
-fn interval_sweeps(tally: &mut Tally) -> bool {
+fn interval_sweeps(visit: Visit<'_>) -> bool {
     let settings: [Settings; 4] = [(2, 0, 1), (1, 0, 1), (2, 0, 3), (1, 0, 4)];
     let bounds = pairs(&[0, 1, 2, 3], &[0, 1, 2, 3, 4]);
     let items = |hashes: &[u64]| -> Vec<Item> {
@@ -137,8 +141,8 @@ fn interval_sweeps(tally: &mut Tally) -> bool {
     };
     let all = Domain::new(Mode::Interval, subsets(3), ranges(4));
     let few = Domain::new(Mode::Interval, subsets(2)[1..].to_vec(), ranges(4));
-    (0..=2).all(|length| all.judge(tally, &settings, &items(&[1, 2, 3]), length))
-        && few.judge(tally, &settings[1..3], &items(&[1, 2]), 3)
+    (0..=2).all(|length| all.visit(visit, &settings, &items(&[1, 2, 3]), length))
+        && few.visit(visit, &settings[1..3], &items(&[1, 2]), 3)
 }
 
 /// All ranges, reversed ones too, with bounds up to `most`.
@@ -163,9 +167,9 @@ impl Domain {
     }
 
     /// Every list of `length` items whose starts do not descend, with every query, range and setting.
-    fn judge(
+    fn visit(
         &self,
-        tally: &mut Tally,
+        visit: Visit<'_>,
         settings: &[Settings],
         items: &[Item],
         length: usize,
@@ -177,14 +181,14 @@ impl Domain {
             self.queries.iter().all(|query| {
                 settings
                     .iter()
-                    .all(|&settings| self.judge_ranges(tally, settings, query, word))
+                    .all(|&settings| self.visit_ranges(visit, settings, query, word))
             })
         })
     }
 
-    fn judge_ranges(
+    fn visit_ranges(
         &self,
-        tally: &mut Tally,
+        visit: Visit<'_>,
         settings: Settings,
         query: &[u64],
         items: &[Item],
@@ -194,7 +198,7 @@ impl Domain {
             if let Case::Sweep(call) = &mut case {
                 (call.range_start, call.range_end) = (start, end);
             }
-            tally.judge(&case, SMALL_PATIENCE)
+            visit(&case)
         })
     }
 
@@ -227,17 +231,17 @@ impl Domain {
 type Hit = (u32, u32, u32);
 
 /// Up to 4 hits at 0 to 4 of contigs 0 and 1, lengths 0 to 4.
-fn minimizer_finders(tally: &mut Tally) -> bool {
+fn minimizer_finders(visit: Visit<'_>) -> bool {
     let hits: Vec<Hit> = pairs(&[0, 1], &[0, 1, 2, 3, 4])
         .iter()
         .map(|&(contig, position)| (contig, position, 0))
         .collect();
     let settings = pairs(&[1, 2, 3], &[0, 1, 2, 3, 4]);
-    (0..=4).all(|length| judge_finders(tally, Mode::Minimizer, &hits, length, &settings))
+    (0..=4).all(|length| visit_finders(visit, Mode::Minimizer, &hits, length, &settings))
 }
 
 /// Up to 3 intervals with starts 0 to 3 and ends 0 to 4 of contigs 0 and 1, 4 of one contig.
-fn interval_finders(tally: &mut Tally) -> bool {
+fn interval_finders(visit: Visit<'_>) -> bool {
     let bounds = pairs(&[0, 1, 2, 3], &[0, 1, 2, 3, 4]);
     let hits = |contigs: &[u32]| -> Vec<Hit> {
         pairs(contigs, &bounds)
@@ -246,13 +250,13 @@ fn interval_finders(tally: &mut Tally) -> bool {
             .collect()
     };
     let settings = pairs(&[1, 2, 3], &[0]);
-    (0..=3).all(|length| judge_finders(tally, Mode::Interval, &hits(&[0, 1]), length, &settings))
-        && judge_finders(tally, Mode::Interval, &hits(&[0]), 4, &settings[1..2])
+    (0..=3).all(|length| visit_finders(visit, Mode::Interval, &hits(&[0, 1]), length, &settings))
+        && visit_finders(visit, Mode::Interval, &hits(&[0]), 4, &settings[1..2])
 }
 
 /// Every list of hits, in one group, and cut into two with a threshold that drops the longer one.
-fn judge_finders(
-    tally: &mut Tally,
+fn visit_finders(
+    visit: Visit<'_>,
     mode: Mode,
     hits: &[Hit],
     length: usize,
@@ -263,10 +267,10 @@ fn judge_finders(
     words(hits, length, &mut |word| {
         settings.iter().all(|&settings| {
             let thresholds = [u64::MAX, length as u64 / 2 + 1];
-            groups.iter().zip(thresholds).all(|(groups, threshold)| {
-                let case = finder(mode, word, settings, groups, threshold);
-                tally.judge(&case, SMALL_PATIENCE)
-            })
+            groups
+                .iter()
+                .zip(thresholds)
+                .all(|(groups, threshold)| visit(&finder(mode, word, settings, groups, threshold)))
         })
     })
 }

@@ -42,6 +42,7 @@ pub mod diff;
 pub mod differences;
 pub mod examples;
 pub mod exhaust;
+pub mod folder;
 pub mod generate;
 pub mod job_command;
 pub mod model;

@@ -9,7 +9,7 @@ use crate::call::{
     Candidate, FinderAnswer, FinderCall, Mode, Place, ScriptAnswer, ScriptCall, Stats, SweepAnswer,
     SweepCall,
 };
-use crate::candidate_window::{do_l1_mapping, L1Candidate, PackedMinimizerHit};
+use crate::candidate_window::{do_l1_mapping, L1Candidate, L1Stats, PackedMinimizerHit};
 use crate::compute_identity::{DistanceEstimate, DistanceModel};
 use crate::mapper_with_pivot::{pivot, BitsetBottomSketchSlideMapper};
 use crate::simd_minimizer::{Minimizer, MinimizerMode, MinmerInterval};
@@ -74,19 +74,46 @@ pub fn script(call: &ScriptCall) -> Result<ScriptAnswer, Panicked> {
 
 /// Either sweep, on a reference of one contig.
 pub fn sweep(call: &SweepCall) -> Result<SweepAnswer, Panicked> {
-    guarded(|| {
-        let candidate = L1Candidate {
-            seq_id: 0,
-            range_start: call.range_start as usize,
-            range_end: call.range_end as usize,
-        };
-        let config = config(call.mode, call.kmer, call.minimum, 0);
+    guarded(|| PreparedSweep::new(call).answer())
+}
+
+/// Either finder. Group g is what the lookup has for query hash g.
+pub fn finder(call: &FinderCall) -> Result<FinderAnswer, Panicked> {
+    guarded(|| PreparedFinder::new(call).answer())
+}
+
+/// A sweep in the original's own types, so that its function alone can be timed.
+pub struct PreparedSweep {
+    query: QuerySketch,
+    candidate: L1Candidate,
+    reference: ReferenceIndex,
+    config: AniConfig,
+    window: usize,
+}
+
+impl PreparedSweep {
+    pub fn new(call: &SweepCall) -> Self {
+        PreparedSweep {
+            query: sketch(call),
+            candidate: L1Candidate {
+                seq_id: 0,
+                range_start: call.range_start as usize,
+                range_end: call.range_end as usize,
+            },
+            reference: contig(call),
+            config: config(call.mode, call.kmer, call.minimum, 0),
+            window: call.window as usize,
+        }
+    }
+
+    /// The original's function; its panics are the caller's.
+    pub fn answer(&self) -> SweepAnswer {
         let (mapping, stats) = do_l2_mapping(
-            &sketch(call),
-            candidate,
-            &contig(call),
-            &config,
-            call.window as usize,
+            &self.query,
+            self.candidate,
+            &self.reference,
+            &self.config,
+            self.window,
         )
         .expect("the sweeps make no error");
         let stats = told_stats(stats);
@@ -94,26 +121,51 @@ pub fn sweep(call: &SweepCall) -> Result<SweepAnswer, Panicked> {
             None => SweepAnswer::Nothing(stats),
             Some(mapping) => SweepAnswer::Placed(told_place(mapping), stats),
         }
-    })
+    }
 }
 
-/// Either finder. Group g is what the lookup has for query hash g.
-pub fn finder(call: &FinderCall) -> Result<FinderAnswer, Panicked> {
-    guarded(|| {
-        let query = QuerySketch {
-            fragment_id: 0,
-            len: call.length as usize,
-            unique_hashes: (0..call.groups.len() as u64).collect(),
-            distance_table: Arc::new([]),
-        };
-        let config = config(call.mode, 1, 0.0, call.minimum as usize);
-        let (found, stats) = do_l1_mapping(&query, &lookups(call), &config);
-        let ranges = found.into_iter().map(told_candidate).collect();
+/// A finder in the original's own types, its groups already looked up.
+pub struct PreparedFinder {
+    query: QuerySketch,
+    reference: ReferenceIndex,
+    config: AniConfig,
+}
+
+impl PreparedFinder {
+    pub fn new(call: &FinderCall) -> Self {
+        PreparedFinder {
+            query: QuerySketch {
+                fragment_id: 0,
+                len: call.length as usize,
+                unique_hashes: (0..call.groups.len() as u64).collect(),
+                distance_table: Arc::new([]),
+            },
+            reference: lookups(call),
+            config: config(call.mode, 1, 0.0, call.minimum as usize),
+        }
+    }
+
+    /// The original's function and its candidates as it makes them; `told` turns them into an answer.
+    pub fn run(&self) -> FoundByOriginal {
+        FoundByOriginal(do_l1_mapping(&self.query, &self.reference, &self.config))
+    }
+
+    pub fn answer(&self) -> FinderAnswer {
+        self.run().told()
+    }
+}
+
+/// What the original's finder makes.
+pub struct FoundByOriginal((Vec<L1Candidate>, L1Stats));
+
+impl FoundByOriginal {
+    pub fn told(self) -> FinderAnswer {
+        let (found, stats) = self.0;
         FinderAnswer::Listed {
-            ranges,
+            ranges: found.into_iter().map(told_candidate).collect(),
             seed_hits: stats.seed_hits as u32,
         }
-    })
+    }
 }
 
 fn config(mode: Mode, kmer: u32, minimum: f64, minimum_hits: usize) -> AniConfig {

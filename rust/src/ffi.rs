@@ -9,6 +9,30 @@ pub struct ScriptOut {
     pub shared: u32,
 }
 
+#[repr(C)]
+pub struct SweepOut {
+    pub number: u32,
+    pub place: u32,
+    pub found: u32,
+    pub start: u64,
+    pub end: u64,
+    pub shared: u32,
+    pub size: u32,
+    pub identity: f64,
+    pub upper: f64,
+    pub windows: u64,
+    pub coords: u32,
+    pub items: u32,
+}
+
+#[repr(C)]
+pub struct FinderOut {
+    pub number: u32,
+    pub place: u32,
+    pub count: u32,
+    pub hits: u32,
+}
+
 extern "C" {
     pub fn kelonbaro_script(
         query: *const u64,
@@ -30,4 +54,108 @@ extern "C" {
         shared: *mut u32,
         shared_len: usize,
     ) -> ScriptOut;
+
+    pub fn kelonbaro_minimizer_sweep(
+        kmer: u32,
+        length: u32,
+        window: u32,
+        start: u32,
+        end: u32,
+        query: *const u64,
+        query_len: usize,
+        hashes: *const u64,
+        hashes_len: usize,
+        positions: *const u32,
+        positions_len: usize,
+        identities: *const f64,
+        identities_len: usize,
+        uppers: *const f64,
+        uppers_len: usize,
+        minimum: f64,
+        work_hashes: *mut u64,
+        work_hashes_len: usize,
+        counts: *mut u32,
+        counts_len: usize,
+        coords: *mut u32,
+        coords_len: usize,
+        words: *mut u64,
+        words_len: usize,
+        summary: *mut u64,
+        summary_len: usize,
+    ) -> SweepOut;
+
+    pub fn kelonbaro_interval_sweep(
+        kmer: u32,
+        length: u32,
+        start: u32,
+        end: u32,
+        query: *const u64,
+        query_len: usize,
+        hashes: *const u64,
+        hashes_len: usize,
+        starts: *const u32,
+        starts_len: usize,
+        ends: *const u32,
+        ends_len: usize,
+        identities: *const f64,
+        identities_len: usize,
+        uppers: *const f64,
+        uppers_len: usize,
+        minimum: f64,
+        work_hashes: *mut u64,
+        work_hashes_len: usize,
+        counts: *mut u32,
+        counts_len: usize,
+        coords: *mut u32,
+        coords_len: usize,
+        words: *mut u64,
+        words_len: usize,
+        summary: *mut u64,
+        summary_len: usize,
+        events: *mut u64,
+        events_len: usize,
+    ) -> SweepOut;
+
+    pub fn kelonbaro_minimizer_finder(
+        groups: *const u32,
+        groups_len: usize,
+        contigs: *const u32,
+        contigs_len: usize,
+        positions: *const u32,
+        positions_len: usize,
+        minimum: u32,
+        length: u32,
+        threshold: u64,
+        keys: *mut u64,
+        keys_len: usize,
+        out_contigs: *mut u32,
+        out_contigs_len: usize,
+        out_starts: *mut u32,
+        out_starts_len: usize,
+        out_ends: *mut u32,
+        out_ends_len: usize,
+    ) -> FinderOut;
+
+    pub fn kelonbaro_interval_finder(
+        groups: *const u32,
+        groups_len: usize,
+        contigs: *const u32,
+        contigs_len: usize,
+        starts: *const u32,
+        starts_len: usize,
+        ends: *const u32,
+        ends_len: usize,
+        minimum: u32,
+        threshold: u64,
+        start_keys: *mut u64,
+        start_keys_len: usize,
+        end_keys: *mut u64,
+        end_keys_len: usize,
+        out_contigs: *mut u32,
+        out_contigs_len: usize,
+        out_starts: *mut u32,
+        out_starts_len: usize,
+        out_ends: *mut u32,
+        out_ends_len: usize,
+    ) -> FinderOut;
 }

@@ -1,5 +1,8 @@
 //! Safe calls of Kelonbaro's library: the mapping part of TurboANI, with its answers proved.
 //!
+//! Five calls: [`minimizer_finder`] and [`interval_finder`] list where a fragment may start in a reference, [`minimizer_sweep`] and
+//! [`interval_sweep`] place it in one such range, and [`script`] runs single inserts and deletes over the sketch that the sweeps slide.
+//!
 //! A call takes its inputs and its work memory as slices, allocates nothing, keeps nothing and never panics. Inputs that it does not take are
 //! refused with a number and a place ([`Refusal`]), and then no lent slice has changed. What each call answers, and every byte that it
 //! leaves in the slices, is proved from definitions in the repository's `crates/rules/specs`; the wrappers here are not
@@ -8,9 +11,20 @@
 //! Build the archive first: `rt staticlib exports` in the repository.
 
 mod ffi;
+mod finder;
+mod interval_sweep;
+mod minimizer_sweep;
 mod script;
+mod sweep;
 
+pub use finder::{
+    interval_finder, minimizer_finder, Candidate, Candidates, FinderAnswer, IntervalFinder,
+    MinimizerFinder,
+};
+pub use interval_sweep::{interval_sweep, IntervalSweep};
+pub use minimizer_sweep::{minimizer_sweep, MinimizerSweep};
 pub use script::{script, Final, Script, ScriptNeeds, ScriptWork};
+pub use sweep::{Estimate, Place, Range, Settings, Stats, SweepAnswer, SweepNeeds, SweepWork};
 
 /// Why a call was refused. Checks run in the order of their numbers, and the first that fails is told.
 ///

@@ -6,7 +6,7 @@ use Rattle.rules.specs.Script.{Script, looks}
 use Rattle.rules.specs.Refusals.{scriptVerdict, scriptCall}
 use Rattle.rules.specs.Told.{Told, toldScript}
 use Rattle.rules.specs.Calls.{ScriptLent, scriptRoomOf, ScriptLeft}
-use Rattle.exports.specs.declared.ScriptOut.{ScriptOut}
+use Rattle.exports.specs.declared.scripts.ScriptOut.{ScriptOut}
 
 -- what is told, field by field: the number, the place, and the two values of a script that was done, else 0
 unfoldable pub outOf : Told → ScriptOut

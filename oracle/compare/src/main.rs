@@ -1,17 +1,27 @@
 //! `compare COMMAND`: the proved library, called through the Rust crate, against the original Rust and the model.
 
+mod faults;
+mod finder;
+mod folder;
+mod judged;
 mod lent;
+mod proved;
 mod run;
 mod script;
+mod sweep;
 #[cfg(test)]
 mod wrong;
 
+use std::path::Path;
 use std::process::ExitCode;
 
 use oracle::generate::Size;
+use proved::Proved;
 
-const USAGE: &str = "usage: compare script SEED COUNT [small|medium|limit]
-       compare exhaust";
+const USAGE: &str = "usage: compare CALL SEED COUNT [small|medium|limit]
+       compare exhaust CALL
+       compare jobs FOLDER
+CALL is script, minimizer, interval, minimizer_finder or interval_finder";
 
 fn main() -> ExitCode {
     let arguments: Vec<String> = std::env::args().skip(1).collect();
@@ -29,16 +39,17 @@ fn main() -> ExitCode {
 /// Whether all was the same, or none where the arguments are not understood.
 fn command(arguments: &[&str]) -> Option<bool> {
     match arguments {
-        ["script", seed, count] => scripts(seed, count, None),
-        ["script", seed, count, "small"] => scripts(seed, count, Some(Size::Small)),
-        ["script", seed, count, "medium"] => scripts(seed, count, Some(Size::Medium)),
-        ["script", seed, count, "limit"] => scripts(seed, count, Some(Size::Limit)),
-        ["exhaust"] => Some(run::exhaust(kelonbaro::script)),
+        ["exhaust", call] => Some(run::exhaust(Proved::named(call)?)),
+        ["jobs", folder] => Some(folder::run(Path::new(folder))),
+        [call, seed, count] => random(call, seed, count, None),
+        [call, seed, count, "small"] => random(call, seed, count, Some(Size::Small)),
+        [call, seed, count, "medium"] => random(call, seed, count, Some(Size::Medium)),
+        [call, seed, count, "limit"] => random(call, seed, count, Some(Size::Limit)),
         _ => None,
     }
 }
 
-fn scripts(seed: &str, count: &str, size: Option<Size>) -> Option<bool> {
+fn random(call: &str, seed: &str, count: &str, size: Option<Size>) -> Option<bool> {
     let (seed, count) = (seed.parse().ok()?, count.parse().ok()?);
-    Some(run::scripts(kelonbaro::script, seed, count, size))
+    Some(run::random(Proved::named(call)?, seed, count, size))
 }

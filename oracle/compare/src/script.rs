@@ -6,6 +6,7 @@ use oracle::model::{self, needs, refusals};
 use oracle::original;
 use oracle::random::Random;
 
+use crate::judged::{first_wrong, two_answers, Judged};
 use crate::lent::Lent;
 
 /// The call that is judged: `kelonbaro::script`, or a wrong one that the tests put in its place.
@@ -14,14 +15,6 @@ pub type Call =
 
 /// The model looks afresh after each step; past this many coordinates × steps only the original is asked.
 const PATIENCE: usize = 1 << 25;
-
-pub struct Judged {
-    /// The answer's kind, for the tally.
-    pub kind: &'static str,
-    /// Whether the model answered each step too.
-    pub modelled: bool,
-    pub difference: Option<String>,
-}
 
 struct Slices {
     counts: Lent<u32>,
@@ -60,7 +53,7 @@ impl Slices {
 
     /// The first slice that is not as a refused call must leave it.
     fn touched(&self) -> Option<&'static str> {
-        first_wrong([
+        first_wrong(&[
             ("counts", self.counts.holds(&[])),
             ("words", self.words.holds(&[])),
             ("summary", self.summary.holds(&[])),
@@ -72,7 +65,7 @@ impl Slices {
     /// The first slice that is not as a script that was done must leave it.
     fn misfilled(&self, call: &ScriptCall, pivots: &[u32], shared: &[u32]) -> Option<&'static str> {
         let need = needs::script(call.coords.len(), call.indexes.len());
-        first_wrong([
+        first_wrong(&[
             ("counts", self.counts.holds(&vec![0; need.counts])),
             ("words", self.words.holds(&vec![0; need.words])),
             ("summary", self.summary.holds(&vec![0; need.summary])),
@@ -80,10 +73,6 @@ impl Slices {
             ("shared", self.shared.holds(shared)),
         ])
     }
-}
-
-fn first_wrong(slices: [(&'static str, bool); 5]) -> Option<&'static str> {
-    slices.iter().find(|slice| !slice.1).map(|slice| slice.0)
 }
 
 pub fn judge(proved: Call, call: &ScriptCall) -> Judged {
@@ -106,12 +95,13 @@ fn judge_refused(
         place: refusal.place,
     });
     let difference = match slices.touched() {
-        _ if answer != expected => Some(format!("  proved {answer:?}\n   model {expected:?}")),
+        _ if answer != expected => Some(two_answers(&answer, &expected)),
         Some(name) => Some(format!("refused, and {name} changed")),
         None => None,
     };
     Judged {
         kind: oracle::case::refused(refusal.number),
+        entries: 0,
         modelled: true,
         difference,
     }
@@ -126,6 +116,7 @@ fn judge_done(answer: Result<Final, Refusal>, slices: &Slices, call: &ScriptCall
     let difference = differs(answer, slices, call, modelled);
     Judged {
         kind,
+        entries: call.indexes.len() as u64,
         modelled,
         difference,
     }
@@ -154,7 +145,7 @@ fn differs(
         shared: last.1,
     });
     if answer != expected {
-        return Some(format!("  proved {answer:?}\noriginal {expected:?}"));
+        return Some(two_answers(&answer, &expected));
     }
     let name = slices.misfilled(call, &pivots, &shared)?;
     Some(format!(

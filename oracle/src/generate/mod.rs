@@ -7,7 +7,7 @@ mod finders;
 mod scripts;
 mod sweeps;
 
-use crate::call::Mode;
+use crate::call::Kind;
 use crate::case::Case;
 use crate::random::Random;
 
@@ -22,12 +22,16 @@ pub enum Size {
 }
 
 pub fn case(random: &mut Random, size: Size) -> Case {
-    let mut case = match random.below(5) {
-        0 => Case::Script(scripts::script(random, size)),
-        1 => Case::Sweep(sweeps::sweep(random, size, Mode::Minimizer)),
-        2 => Case::Sweep(sweeps::sweep(random, size, Mode::Interval)),
-        3 => Case::Finder(finders::finder(random, size, Mode::Minimizer)),
-        _ => Case::Finder(finders::finder(random, size, Mode::Interval)),
+    let kind = random.pick(&Kind::ALL);
+    of(random, size, kind)
+}
+
+/// A case of this kind.
+pub fn of(random: &mut Random, size: Size, kind: Kind) -> Case {
+    let mut case = match kind {
+        Kind::Script => Case::Script(scripts::script(random, size)),
+        Kind::Sweep(mode) => Case::Sweep(sweeps::sweep(random, size, mode)),
+        Kind::Finder(mode) => Case::Finder(finders::finder(random, size, mode)),
     };
     if random.once_in(8) {
         breaks::broken(random, &mut case);

@@ -1,8 +1,8 @@
 -- `told_script` goes by the two cases of the answer.
 use borrow.Author.Needs.{needs}
-use Rattle.exports.proofs.Told.{out-refused, out-done}
-use Rattle.exports.proofs.told_script.Statement.{statement}
-use Rattle.exports.proofs.told_script.Tie as tie
+use Rattle.exports.proofs.Script.{out-refused, out-done}
+use Rattle.exports.proofs.scripts.told_script.Statement.{statement}
+use Rattle.exports.proofs.scripts.told_script.Tie as tie
 
 enum-known-answer : tie.Need-enum-known-answer
 enum-known-answer c = search needs

@@ -1,22 +1,19 @@
-//! The comparison sees what it is for: each wrong call here is the proved one with one fault, and is caught within 20,000 scripts.
+//! Wrong scripts.
 
 use kelonbaro::{script, Final, Refusal, Script, ScriptWork};
 
-use crate::run;
+use crate::proved::Proved;
 use crate::script::Call;
 
 type Answer = Result<Final, Refusal>;
 
-const SEED: u64 = 1;
-const COUNT: u64 = 20_000;
-
 fn caught(call: Call) {
-    assert!(!run::scripts(call, SEED, COUNT, None));
+    super::caught(Proved::Script(call));
 }
 
 #[test]
 fn the_proved_call_is_right() {
-    assert!(run::scripts(script, SEED, COUNT, None));
+    super::right(Proved::Script(script));
 }
 
 #[test]

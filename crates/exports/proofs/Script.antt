@@ -7,7 +7,7 @@ use Rattle.base.specs.declared.ScriptAnswer.{ScriptAnswer}
 use Rattle.rules.specs.Script.{Script}
 use Rattle.rules.specs.Told.{toldRefused, toldDone, toldScript}
 use Rattle.rules.specs.Calls.{ScriptLent, ScriptPromise}
-use Rattle.exports.specs.declared.ScriptOut.{ScriptOut}
+use Rattle.exports.specs.declared.scripts.ScriptOut.{ScriptOut}
 use Rattle.exports.specs.Script.{outOf, Exported}
 
 pub out-refused : (a : ScriptAnswer) (r : Refusal) → a ≡ ScriptAnswer.Refused r → record { number = r .number; place = r .place; pivot = 0; shared = 0 } ≡ outOf (toldScript a)

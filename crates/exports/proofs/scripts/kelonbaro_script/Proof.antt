@@ -1,8 +1,8 @@
 -- `kelonbaro_script` hands on the promise of `script`.
 use borrow.Author.Needs.{needs}
-use Rattle.exports.proofs.Told.{exported}
-use Rattle.exports.proofs.kelonbaro_script.Statement.{statement}
-use Rattle.exports.proofs.kelonbaro_script.Tie as tie
+use Rattle.exports.proofs.Script.{exported}
+use Rattle.exports.proofs.scripts.kelonbaro_script.Statement.{statement}
+use Rattle.exports.proofs.scripts.kelonbaro_script.Tie as tie
 
 script-requires : tie.Need-script-requires
 script-requires c κs = search needs

@@ -1,0 +1,47 @@
+-- `kelonbaro_interval_sweep` hands on the promise of `interval_sweep`.
+use borrow.Author.Needs.{needs}
+use Rattle.exports.proofs.Sweep.{interval-exported}
+use Rattle.exports.proofs.sweeps.kelonbaro_interval_sweep.Statement.{statement}
+use Rattle.exports.proofs.sweeps.kelonbaro_interval_sweep.Tie as tie
+
+interval-sweep-requires : tie.Need-interval-sweep-requires
+interval-sweep-requires c κs = search needs
+
+told-sweep-requires : tie.Need-told-sweep-requires
+told-sweep-requires c κs = search needs
+
+same-length : tie.Need-same-length
+same-length c = search needs
+
+same-length-2 : tie.Need-same-length-2
+same-length-2 c = search needs
+
+same-length-3 : tie.Need-same-length-3
+same-length-3 c = search needs
+
+same-length-4 : tie.Need-same-length-4
+same-length-4 c = search needs
+
+same-length-5 : tie.Need-same-length-5
+same-length-5 c = search needs
+
+same-length-6 : tie.Need-same-length-6
+same-length-6 c = search needs
+
+returns : tie.Need-returns
+returns c =
+    interval-exported (c .told-sweep .ensures) (c .before .before .before .before .before .before .before .before .before .before .before .before .before .interval-sweep .ensures)
+
+pub kelonbaro-interval-sweep-spec : {M : Type 1} → statement M
+kelonbaro-interval-sweep-spec =
+    tie.close
+    (tie.spec
+    interval-sweep-requires
+    told-sweep-requires
+    same-length
+    same-length-2
+    same-length-3
+    same-length-4
+    same-length-5
+    same-length-6
+    returns)
