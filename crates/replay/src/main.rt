@@ -1,64 +1,43 @@
-// Replays the stored vectors through the outward calls, and prints for each file how many records ran and how many failed. The files are
-// described in oracle/README.md, "Stored vectors".
-mod scripts;
-mod words;
-
+// Replays the stored vectors through the outward calls, and prints for each file how many records ran and how many failed.
 use libc::STDOUT_FILENO;
+use records::file;
 
-// Reads n words through `bytes` into the entries from 1 on; answers false where the file ends before.
-fn fetch(fd: i32, bytes: &mut [u8], out: &mut [u64], n: usize) -> bool {
-    if 8192 < n {
-        return false;
+// Whether the call that a file is about does all that the record says. Files go by their numbers in oracle/README.md, "Stored vectors".
+fn right(number: u8, record: &[u64]) -> bool {
+    match number {
+        0 => replay_script::replay(record),
+        1 => replay_sweeps::replay(record, false),
+        2 => replay_sweeps::replay(record, true),
+        3 => replay_finders::replay(record, false),
+        4 => replay_finders::replay(record, true),
+        _ => false,
     }
-    let want = n * 8;
-    if bytes.len() < want {
-        return false;
-    }
-    let got = io::read_full(fd, &mut bytes[0..want]);
-    if got != want {
-        return false;
-    }
-    words::decode(bytes, out, n)
-}
-
-fn read_words(fd: i32, out: &mut [u64], n: usize) -> bool {
-    let mut bytes = io::large_buffer();
-    fetch(fd, &mut bytes, out, n)
-}
-
-// Reads the next record and answers its length in words, 0 where there is none.
-fn next(fd: i32, record: &mut [u64]) -> usize {
-    let mut head = [0u64; 2];
-    if !read_words(fd, &mut head, 1) {
-        return 0;
-    }
-    let n = words::size_at(&head, 1);
-    if n == 0 {
-        return 0;
-    }
-    if record.len() < n {
-        return 0;
-    }
-    if !read_words(fd, record, n - 1) {
-        return 0;
-    }
-    n
 }
 
 // Replays the next record. Answers 0 where it is right, 1 where it failed or is not there.
-fn one(fd: i32) -> u64 {
-    let mut record = [0u64; 8192];
-    let n = next(fd, &mut record);
+fn one(number: u8, fd: i32) -> u64 {
+    let mut record = [0u64; file::LONGEST];
+    let n = file::next(fd, &mut record);
     if n == 0 {
         return 1;
     }
-    if 8192 < n {
+    if file::LONGEST < n {
         return 1;
     }
-    if scripts::replay(&record[0..n]) {
+    if right(number, &record[0..n]) {
         return 0;
     }
     1
+}
+
+fn replay_all(number: u8, fd: i32, count: u64) -> u64 {
+    let mut failed: u64 = 0;
+    let mut k: u64 = 0;
+    while k < count {
+        failed = failed % 4294967296 + one(number, fd) % 2;
+        k += 1;
+    }
+    failed
 }
 
 fn tell(name: &[u8], run: u64, failed: u64) {
@@ -70,32 +49,26 @@ fn tell(name: &[u8], run: u64, failed: u64) {
     io::write_all(STDOUT_FILENO, b" failed\n");
 }
 
-fn replay_all(fd: i32, count: u64) -> u64 {
-    let mut failed: u64 = 0;
-    let mut k: u64 = 0;
-    while k < count {
-        failed = failed % 4294967296 + one(fd) % 2;
-        k += 1;
-    }
-    failed
-}
-
-fn file(path: &[u8], name: &[u8]) {
+fn replay(number: u8, path: &[u8], name: &[u8]) {
     let fd = os::open_read(path);
     if fd < 0 {
         os::fail(path);
         return;
     }
     let mut head = [0u64; 5];
-    if !read_words(fd, &mut head, 4) {
+    if !file::read_words(fd, &mut head, 4) {
         os::fail(path);
         return;
     }
-    let failed = replay_all(fd, head[3]);
+    let failed = replay_all(number, fd, head[3]);
     tell(name, head[3], failed);
     libc::close(fd);
 }
 
 fn main() {
-    file(b"script.bin", b"script");
+    replay(0, b"script.bin", b"script");
+    replay(1, b"minimizer.bin", b"minimizer");
+    replay(2, b"interval.bin", b"interval");
+    replay(3, b"minimizer_finder.bin", b"minimizer_finder");
+    replay(4, b"interval_finder.bin", b"interval_finder");
 }

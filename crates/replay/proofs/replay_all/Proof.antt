@@ -5,10 +5,10 @@ use Rattle.replay.proofs.replay_all.Statement.{statement}
 use Rattle.replay.proofs.replay_all.Tie as tie
 
 abbrev Inv-loop : tie.InvT-loop
-Inv-loop fd count failed₀ k₀ failed k = Unit {0}
+Inv-loop number fd count failed₀ k₀ failed k = Unit {0}
 
 abbrev μ-loop : tie.MeasureT-loop
-μ-loop fd count failed₀ k₀ failed k = count - k
+μ-loop number fd count failed₀ k₀ failed k = count - k
 
 loop-holds : tie.Need-loop-holds Inv-loop μ-loop
 loop-holds c = search needs

@@ -1,7 +1,7 @@
 -- `word_at` takes a word's eight bytes from the highest down: what is shifted was cut to 56 bits, so the sum fits.
 use borrow.Author.Needs.{needs}
-use Rattle.replay.proofs.words.word_at.Statement.{statement}
-use Rattle.replay.proofs.words.word_at.Tie as tie
+use Rattle.records.proofs.file.word_at.Statement.{statement}
+use Rattle.records.proofs.file.word_at.Tie as tie
 
 abbrev Inv-loop : tie.InvT-loop
 Inv-loop bytes at word₀ i₀ word i = Unit {0}

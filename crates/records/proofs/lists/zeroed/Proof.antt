@@ -1,15 +1,15 @@
--- `holds` ends with its list.
+-- `zeroed` ends with its list.
 use borrow.Author.Needs.{needs}
 use Prim.Native.Nat.{_-_}
 use lib.ListN.{length}
-use Rattle.replay.proofs.words.holds.Statement.{statement}
-use Rattle.replay.proofs.words.holds.Tie as tie
+use Rattle.records.proofs.lists.zeroed.Statement.{statement}
+use Rattle.records.proofs.lists.zeroed.Tie as tie
 
 abbrev Inv-loop : tie.InvT-loop
-Inv-loop list words from n i₀ i = Unit {0}
+Inv-loop list n i₀ i = Unit {0}
 
 abbrev μ-loop : tie.MeasureT-loop
-μ-loop list words from n i₀ i = length list - i
+μ-loop list n i₀ i = length list - i
 
 loop-holds : tie.Need-loop-holds Inv-loop μ-loop
 loop-holds c = search needs
@@ -23,17 +23,11 @@ shared-slice-read-wider c = search needs
 wider-requires : tie.Need-wider-requires Inv-loop μ-loop
 wider-requires c κs = search needs
 
-entry-requires : tie.Need-entry-requires Inv-loop μ-loop
-entry-requires c κs = search needs
+cleared-requires : tie.Need-cleared-requires Inv-loop μ-loop
+cleared-requires c κs = search needs
 
 returns : tie.Need-returns Inv-loop μ-loop
 returns c = search needs
-
-wider-requires-2 : tie.Need-wider-requires-2 Inv-loop μ-loop
-wider-requires-2 c κs = search needs
-
-returns-2 : tie.Need-returns-2 Inv-loop μ-loop
-returns-2 c = search needs
 
 add-i : tie.Need-add-i Inv-loop μ-loop
 add-i c = search needs
@@ -44,11 +38,11 @@ loop-less c = search needs
 loop-again : tie.Need-loop-again Inv-loop μ-loop
 loop-again c = search needs
 
-returns-3 : tie.Need-returns-3 Inv-loop μ-loop
-returns-3 c = search needs
+returns-2 : tie.Need-returns-2 Inv-loop μ-loop
+returns-2 c = search needs
 
-pub holds-spec : {M : Type 1} → statement M
-holds-spec =
+pub zeroed-spec : {M : Type 1} → statement M
+zeroed-spec =
     tie.close
     (tie.spec
     Inv-loop
@@ -57,11 +51,9 @@ holds-spec =
     mul-wider
     shared-slice-read-wider
     wider-requires
-    entry-requires
+    cleared-requires
     returns
-    wider-requires-2
-    returns-2
     add-i
     loop-less
     loop-again
-    returns-3)
+    returns-2)

@@ -1,16 +1,22 @@
--- `narrow` ends: each turn is one word of the n, and the list keeps its length.
+-- `narrow_bytes` ends: each turn is one word of the n, and the list keeps its length.
 use borrow.Author.Needs.{needs}
 use mathlib.Core.Path.{_≡_}
 use Prim.Native.Nat.{_-_}
 use lib.ListN.{length}
-use Rattle.replay.proofs.words.narrow.Statement.{statement}
-use Rattle.replay.proofs.words.narrow.Tie as tie
+use Rattle.records.proofs.words.narrow_bytes.Statement.{statement}
+use Rattle.records.proofs.words.narrow_bytes.Tie as tie
 
 abbrev Inv-loop : tie.InvT-loop
-Inv-loop words from n out₀ k₀ out k = (length out ≡ length out₀)
+Inv-loop words at from i out₀ start n k₀ out k = (length out ≡ length out₀)
 
 abbrev μ-loop : tie.MeasureT-loop
-μ-loop words from n out₀ k₀ out k = n - k
+μ-loop words at from i out₀ start n k₀ out k = n - k
+
+after-requires : tie.Need-after-requires Inv-loop μ-loop
+after-requires c κs = search needs
+
+size-at-requires : tie.Need-size-at-requires Inv-loop μ-loop
+size-at-requires c κs = search needs
 
 loop-holds : tie.Need-loop-holds Inv-loop μ-loop
 loop-holds c = search needs
@@ -33,9 +39,6 @@ returns-2 c = search needs
 cast-out : tie.Need-cast-out Inv-loop μ-loop
 cast-out c = search needs
 
-mul-out : tie.Need-mul-out Inv-loop μ-loop
-mul-out c = search needs
-
 slice-write-out : tie.Need-slice-write-out Inv-loop μ-loop
 slice-write-out c = search needs
 
@@ -54,12 +57,14 @@ same-length-3 c = search needs
 returns-3 : tie.Need-returns-3 Inv-loop μ-loop
 returns-3 c = search needs
 
-pub narrow-spec : {M : Type 1} → statement M
-narrow-spec =
+pub narrow-bytes-spec : {M : Type 1} → statement M
+narrow-bytes-spec =
     tie.close
     (tie.spec
     Inv-loop
     μ-loop
+    after-requires
+    size-at-requires
     loop-holds
     entry-requires
     same-length
@@ -67,7 +72,6 @@ narrow-spec =
     same-length-2
     returns-2
     cast-out
-    mul-out
     slice-write-out
     add-k
     loop-less

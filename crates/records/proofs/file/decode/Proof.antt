@@ -3,8 +3,8 @@ use borrow.Author.Needs.{needs}
 use mathlib.Core.Path.{_≡_}
 use Prim.Native.Nat.{_-_}
 use lib.ListN.{length}
-use Rattle.replay.proofs.words.decode.Statement.{statement}
-use Rattle.replay.proofs.words.decode.Tie as tie
+use Rattle.records.proofs.file.decode.Statement.{statement}
+use Rattle.records.proofs.file.decode.Tie as tie
 
 abbrev Inv-loop : tie.InvT-loop
 Inv-loop bytes out₀ n k₀ out k = (length out ≡ length out₀)
