@@ -50,7 +50,7 @@ class Examples(unittest.TestCase):
         self.assertGreaterEqual(len(JOBS), 40)
 
     def test_texts_pack_to_their_jobs(self):
-        texts = sorted(EXAMPLES.glob("*.txt"))
+        texts = sorted(path for path in EXAMPLES.glob("*.txt") if path.name != "finders.txt")
         self.assertGreaterEqual(len(texts), 30)
         for text in texts:
             with self.subTest(text.name):

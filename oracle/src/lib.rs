@@ -47,6 +47,7 @@ pub mod generate;
 pub mod job_command;
 pub mod model;
 pub mod original;
+pub mod program;
 pub mod random;
 pub mod readable;
 pub mod shrink;

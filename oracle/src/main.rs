@@ -2,8 +2,10 @@
 
 use std::path::Path;
 use std::process::ExitCode;
+use std::time::Duration;
 
 use oracle::generate::Size;
+use oracle::program::{self, Program, SECOND};
 
 const USAGE: &str = "usage: oracle examples
        oracle diff SEED COUNT [small|medium|limit]
@@ -12,6 +14,8 @@ const USAGE: &str = "usage: oracle examples
        oracle differences
        oracle job < FILE
        oracle jobs SEED COUNT
+       oracle program [--seconds N] SEED COUNT PROGRAM [WORD..]
+       oracle program [--seconds N] bytes PROGRAM [WORD..]
        oracle vectors FOLDER
        oracle vectors --check FOLDER";
 
@@ -39,6 +43,7 @@ fn run(arguments: &[&str]) -> Option<bool> {
         ["differences"] => Some(oracle::differences::run()),
         ["job"] => Some(oracle::job_command::job()),
         ["jobs", seed, count] => jobs(seed, count),
+        ["program", words @ ..] => program(words, SECOND),
         ["vectors", "--check", folder] => Some(oracle::vectors::check(Path::new(folder))),
         ["vectors", folder] => Some(oracle::vectors::write(Path::new(folder))),
         _ => None,
@@ -63,4 +68,19 @@ fn diff(seed: &str, count: &str, size: Option<&str>) -> Option<bool> {
 fn jobs(seed: &str, count: &str) -> Option<bool> {
     let (seed, count) = (seed.parse().ok()?, count.parse().ok()?);
     Some(oracle::job_command::compare(seed, count))
+}
+
+fn program(words: &[&str], limit: Duration) -> Option<bool> {
+    let other = match words {
+        ["--seconds", seconds, words @ ..] => {
+            return program(words, Duration::from_secs(seconds.parse().ok()?))
+        }
+        ["bytes", words @ ..] if !words.is_empty() => program::bytes(&Program { words, limit }),
+        [seed, count, words @ ..] if !words.is_empty() => {
+            let (seed, count) = (seed.parse().ok()?, count.parse().ok()?);
+            program::drawn(seed, count, &Program { words, limit })
+        }
+        _ => return None,
+    };
+    Some(other.is_none())
 }

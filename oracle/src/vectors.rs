@@ -1,10 +1,10 @@
 //! The stored vectors: calls and jobs with every word that must come back, for a program that has no Rust at hand.
 //! Expected answers are the model's; what is not refused must be the original's answer too, or the making stops.
 
-mod draw;
+pub(crate) mod draw;
 mod finder_cases;
 pub mod job_cases;
-mod job_fields;
+pub(crate) mod job_fields;
 mod script_cases;
 mod sweep_cases;
 mod words;

@@ -39,7 +39,7 @@ pub fn any(random: &mut Random) -> Input {
         0 => cut(drawn(random).concat(), random),
         1..=2 => damaged(random),
         3 => changed(random),
-        4 => whole(&spoilt_job(random)).concat(),
+        4 => refused(random),
         _ => drawn(random).concat(),
     };
     match random.once_in(10) {
@@ -48,7 +48,7 @@ pub fn any(random: &mut Random) -> Input {
     }
 }
 
-fn ended(bytes: Vec<u8>) -> Input {
+pub(crate) fn ended(bytes: Vec<u8>) -> Input {
     Input {
         bytes,
         failed: false,
@@ -62,7 +62,7 @@ fn failed(bytes: Vec<u8>) -> Input {
     }
 }
 
-fn failing(random: &mut Random) -> Input {
+pub(crate) fn failing(random: &mut Random) -> Input {
     let fields = drawn(random).concat();
     failed(match random.below(3) {
         0 => fields,
@@ -76,14 +76,14 @@ fn cut(mut bytes: Vec<u8>, random: &mut Random) -> Vec<u8> {
     bytes
 }
 
-fn damaged(random: &mut Random) -> Vec<u8> {
+pub(crate) fn damaged(random: &mut Random) -> Vec<u8> {
     let mut fields = drawn(random);
     random.pick(FIELD_FAULTS)(&mut fields, random);
     fields.concat()
 }
 
 /// Some bytes are others.
-fn changed(random: &mut Random) -> Vec<u8> {
+pub(crate) fn changed(random: &mut Random) -> Vec<u8> {
     let mut bytes = drawn(random).concat();
     for _ in 0..random.within(1, 3) {
         let at = index(random, bytes.len());
@@ -93,14 +93,15 @@ fn changed(random: &mut Random) -> Vec<u8> {
     bytes
 }
 
-fn spoilt_job(random: &mut Random) -> Job {
+/// A whole file that the library has a reason to refuse.
+pub(crate) fn refused(random: &mut Random) -> Vec<u8> {
     let mut job = small_job(random);
     random.pick(JOB_FAULTS)(&mut job, random);
-    job
+    whole(&job).concat()
 }
 
 /// The sweeps among the worked examples, in the paper's order: B1, B2, C, D, E, F, G.
-fn worked() -> Vec<Job> {
+pub(crate) fn worked() -> Vec<Job> {
     let sweeps = examples::all()
         .into_iter()
         .filter_map(|example| match example.case {
@@ -149,7 +150,7 @@ fn pair(identity_bits: u64, upper_bits: u64) -> Pair {
 }
 
 /// NaNs are given a payload and a sign now and then: a job may carry any.
-fn small_job(random: &mut Random) -> Job {
+pub(crate) fn small_job(random: &mut Random) -> Job {
     let mode = random.pick(&[Mode::Minimizer, Mode::Interval]);
     let mut job = job_of(&sweep_cases::small(random, mode));
     for pair in &mut job.estimates {
@@ -162,15 +163,27 @@ fn small_job(random: &mut Random) -> Job {
     job
 }
 
-fn drawn(random: &mut Random) -> Fields {
+pub(crate) fn drawn(random: &mut Random) -> Fields {
     let job = small_job(random);
     in_pieces(random, &job)
 }
 
-fn medium(random: &mut Random) -> Fields {
+pub(crate) fn medium_job(random: &mut Random) -> Job {
     let mode = random.pick(&[Mode::Minimizer, Mode::Interval]);
-    let job = job_of(&sweep_cases::medium(random, mode));
+    job_of(&sweep_cases::medium(random, mode))
+}
+
+fn medium(random: &mut Random) -> Fields {
+    let job = medium_job(random);
     in_pieces(random, &job)
+}
+
+/// With as many query hashes, items and estimates as the program takes.
+pub(crate) fn limit_job(random: &mut Random) -> Job {
+    let mode = random.pick(&[Mode::Minimizer, Mode::Interval]);
+    let mut job = job_of(&sweep_cases::limit(random, mode));
+    job.estimates.truncate(513);
+    job
 }
 
 /// What the file can say and the library refuses: 2, 4, 5, 7.
@@ -229,6 +242,7 @@ fn resize(fields: &mut Fields, random: &mut Random, by: i32) {
 
 /// Jobs with as much as the program takes, with one more of each, and of the most bytes a job may have.
 fn at_the_limits() -> Vec<Vec<u8>> {
+    let full_job = |hashes, items, estimates| full_job(Mode::Interval, hashes, items, estimates);
     let full = full_job(512, 2_048, 513);
     vec![
         filled(&full),
@@ -239,8 +253,8 @@ fn at_the_limits() -> Vec<Vec<u8>> {
     ]
 }
 
-/// An interval job whose items cover each other in places, hashes in the upper half.
-fn full_job(hashes: u64, items: u32, estimates: u64) -> Job {
+/// A job whose intervals cover each other in places, hashes in the upper half.
+pub(crate) fn full_job(mode: Mode, hashes: u64, items: u32, estimates: u64) -> Job {
     let hash = |i: u64| (1 << 63) + 3 * i;
     let item = |i: u32| Item {
         hash: hash(u64::from(i) * 7 % 1_024),
@@ -248,7 +262,7 @@ fn full_job(hashes: u64, items: u32, estimates: u64) -> Job {
         end: 3 * i + 200 + i % 5,
     };
     Job {
-        mode: Mode::Interval,
+        mode,
         kmer: 16,
         window: 24,
         length: 3_000,
@@ -264,7 +278,7 @@ fn full_job(hashes: u64, items: u32, estimates: u64) -> Job {
 }
 
 /// The job with empty fields 06 behind its own, up to 65,535 bytes: still a whole job.
-fn filled(job: &Job) -> Vec<u8> {
+pub(crate) fn filled(job: &Job) -> Vec<u8> {
     let mut fields = whole(job);
     let spare = JOB_LIMIT - fields.concat().len();
     let after_items = fields.len() - 2;

@@ -149,6 +149,23 @@ pub fn medium(random: &mut Random, mode: Mode) -> SweepCall {
     finished(random, sweep(mode, settings, &query, &items))
 }
 
+/// As large as the mapping program takes: 512 query hashes and 2,048 items.
+pub fn limit(random: &mut Random, mode: Mode) -> SweepCall {
+    let alphabet = ascending(random, 1_200);
+    let mut query = alphabet.clone();
+    while query.len() > 512 {
+        query.remove(index(random, query.len()));
+    }
+    let items = items(random, &alphabet, 2_048, 1_000, &[0, 1, 2, 5, 9, 14]);
+    let from = 900 + random.below(8_000) as u32;
+    let to = from + random.pick(&[300, 3_000, 12_000]);
+    let length = random.pick(&[600, 3_000]);
+    finished(
+        random,
+        sweep(mode, [16, 24, length, from, to], &query, &items),
+    )
+}
+
 /// Items at ascending starts; some intervals are empty or reversed.
 fn items(
     random: &mut Random,
