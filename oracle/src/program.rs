@@ -31,7 +31,8 @@ impl Tally {
     fn judge(&mut self, program: &Program, run: &Run) -> bool {
         let expected = lines_of(&run.input);
         let ran = process::run(program, run);
-        if ran.ended == Ok(()) && ran.said == expected.as_bytes() {
+        let in_time = ran.took <= program.limit;
+        if ran.ended == Ok(()) && in_time && ran.said == expected.as_bytes() {
             let (count, slowest) = self.kinds.entry(run.kind).or_default();
             *count += 1;
             *slowest = ran.took.max(*slowest);
