@@ -45,8 +45,9 @@ module _ {ns cs ws ss : List ℕ} {at : Slide} {b e : ℕ} (h : Holds ns cs ws s
   holds-room i l =
       omega (arith, active-room (h .active) (holds-in i l) 61440 (omega (arith, h .few, h .inside, length-take (e - b) (drop b ns), length-drop b ns)))
 
-  pub holds-to : (e′ : ℕ) → e ≡ e′ → Holds ns cs ws ss at b e′
-  holds-to e′ q = subst (λ (x : ℕ). Holds ns cs ws ss at b x) q h
+  -- as it was
+  pub holds-at : (b′ e′ : ℕ) → b′ ≡ b → e′ ≡ e → Holds ns cs ws ss at b′ e′
+  holds-at b′ e′ p q = subst (λ (x : ℕ). Holds ns cs ws ss at x e′) (sym p) (subst (λ (x : ℕ). Holds ns cs ws ss at b x) (sym q) h)
 
   module _ {cs′ ws′ ss′ : List ℕ} {r : Slide} (long : length cs′ ≡ length cs) where
     pub holds-more : (b′ e′ : ℕ) → b′ ≡ b → e′ ≡ e + 1 → e < length ns → Inserted cs ws ss at (getD ns e 0) cs′ ws′ ss′ r → Holds ns cs′ ws′ ss′ r b′ e′

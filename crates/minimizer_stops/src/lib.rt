@@ -124,7 +124,58 @@ fn better(best: Best, shared: u32, position: Base) -> Best
     best
 }
 
-// The mapper at the next stop: item b leaves if the stop begins past it, and item e enters if it ends past that.
+// Item b leaves if the next stop begins past it. The moved pair is taken over field by field, as wherever a move is called: a move writes its
+// two halves apart, and a copy of the whole would wait for both.
+fn leave(
+    numbers: &[u32],
+    counts: &mut [u32],
+    words: &mut [u64],
+    summary: &mut [u64],
+    at: Slide,
+    stop: Stop,
+    next: Stop,
+) -> Slide
+    requires { ⌜ Holds (now numbers) (now counts) (now words) (now summary) at (stop .b) (stop .e) × Step (now numbers) stop next ⌝ }
+    ensures { λ r. ⌜ Holds (now (numbers .entry)) (now (counts .exit)) (now (words .exit)) (now (summary .exit)) r (next .b) (stop .e) × Same (now (counts .entry)) (now (counts .exit)) ⌝ }
+{
+    let b = stop.b;
+    if next.b == b {
+        return at;
+    }
+    let gone = slide_mapper::delete_ref(counts, words, summary, at, Coord(numbers[b]));
+    let pivot = gone.pivot;
+    Slide {
+        pivot,
+        shared: gone.shared,
+    }
+}
+
+// Item e enters if the next stop ends past it.
+fn enter(
+    numbers: &[u32],
+    counts: &mut [u32],
+    words: &mut [u64],
+    summary: &mut [u64],
+    at: Slide,
+    stop: Stop,
+    next: Stop,
+) -> Slide
+    requires { ⌜ Holds (now numbers) (now counts) (now words) (now summary) at (next .b) (stop .e) × Step (now numbers) stop next ⌝ }
+    ensures { λ r. ⌜ Holds (now (numbers .entry)) (now (counts .exit)) (now (words .exit)) (now (summary .exit)) r (next .b) (next .e) × Same (now (counts .entry)) (now (counts .exit)) ⌝ }
+{
+    let e = stop.e;
+    if next.e == e {
+        return at;
+    }
+    let came = slide_mapper::insert_ref(counts, words, summary, at, Coord(numbers[e]));
+    let pivot = came.pivot;
+    Slide {
+        pivot,
+        shared: came.shared,
+    }
+}
+
+// The mapper at the next stop.
 fn slide(
     numbers: &[u32],
     counts: &mut [u32],
@@ -137,16 +188,8 @@ fn slide(
     requires { ⌜ Holds (now numbers) (now counts) (now words) (now summary) at (stop .b) (stop .e) × Step (now numbers) stop next ⌝ }
     ensures { λ r. ⌜ Holds (now (numbers .entry)) (now (counts .exit)) (now (words .exit)) (now (summary .exit)) r (next .b) (next .e) × Same (now (counts .entry)) (now (counts .exit)) ⌝ }
 {
-    let b = stop.b;
-    let e = stop.e;
-    if next.b == b {
-        return slide_mapper::insert_ref(counts, words, summary, at, Coord(numbers[e]));
-    }
-    let left = slide_mapper::delete_ref(counts, words, summary, at, Coord(numbers[b]));
-    if next.e == e {
-        return left;
-    }
-    slide_mapper::insert_ref(counts, words, summary, left, Coord(numbers[e]))
+    let left = leave(numbers, counts, words, summary, at, stop, next);
+    enter(numbers, counts, words, summary, left, stop, next)
 }
 
 // Every stop from `from` on: each is scored, then the mapper goes to the next, until no item lies past it, it starts past the range, or the next
@@ -200,7 +243,12 @@ fn fill(
     let mut at = start;
     let mut i = 0;
     while i < e {
-        at = slide_mapper::insert_ref(counts, words, summary, at, Coord(numbers[i]));
+        let came = slide_mapper::insert_ref(counts, words, summary, at, Coord(numbers[i]));
+        let pivot = came.pivot;
+        at = Slide {
+            pivot,
+            shared: came.shared,
+        };
         i += 1;
     }
     at

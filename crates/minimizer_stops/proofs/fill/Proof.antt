@@ -8,7 +8,7 @@ use lib.ListN.{length}
 use Rattle.slide_mapper.specs.State.{flagsOf}
 use Rattle.sweep.proofs.Active.{inserted-flags}
 use Rattle.minimizer_stops.specs.Stops.{Holds}
-use Rattle.minimizer_stops.proofs.Holding.{holds-in, holds-room, holds-more, holds-to}
+use Rattle.minimizer_stops.proofs.Holding.{holds-in, holds-room, holds-more, holds-at}
 use Rattle.minimizer_stops.proofs.fill.Statement.{statement}
 use Rattle.minimizer_stops.proofs.fill.Tie as tie
 
@@ -25,11 +25,11 @@ comes t = omega (arith, t .loop-test .taken, t .before .before .before .before .
 loop-holds : tie.Need-loop-holds Inv-loop μ-loop
 loop-holds c = (c .before .before .before .before .pre .0, refl, omega arith, refl, refl, refl)
 
-mul-t16 : tie.Need-mul-t16 Inv-loop μ-loop
-mul-t16 c = search needs
+mul-t18 : tie.Need-mul-t18 Inv-loop μ-loop
+mul-t18 c = search needs
 
-shared-slice-read-t18 : tie.Need-shared-slice-read-t18 Inv-loop μ-loop
-shared-slice-read-t18 c = search needs
+shared-slice-read-t20 : tie.Need-shared-slice-read-t20 Inv-loop μ-loop
+shared-slice-read-t20 c = search needs
 
 insert-ref-requires : tie.Need-insert-ref-requires Inv-loop μ-loop
 insert-ref-requires c κs =
@@ -45,7 +45,7 @@ loop-less c = search needs
 
 loop-again : tie.Need-loop-again Inv-loop μ-loop
 loop-again c =
-    let d = c .before .before .before .before .before .before in
+    let d = c .before .before .before .before .before .before .before in
     let t = d .before .before .before .before .before in
     let v = t .before .loop .inv in (
       holds-more (v .0) (d .insert-ref .kept .0) 0 (t .before .loop .i + 1) refl refl (comes t) (d .insert-ref .ensures),
@@ -68,7 +68,7 @@ same-length-3 c = search needs
 returns : tie.Need-returns Inv-loop μ-loop
 returns c =
     let v = c .before .loop .inv in
-    (holds-to (v .0) _ (omega (arith, v .2, c .loop-test .left)), v .1)
+    (holds-at (v .0) 0 _ refl (omega (arith, v .2, c .loop-test .left)), v .1)
 
 pub fill-spec : {M : Type 1} → statement M
 fill-spec =
@@ -77,8 +77,8 @@ fill-spec =
     Inv-loop
     μ-loop
     loop-holds
-    mul-t16
-    shared-slice-read-t18
+    mul-t18
+    shared-slice-read-t20
     insert-ref-requires
     add-i
     loop-less
