@@ -52,6 +52,25 @@ fn drawn(mode: Mode, hits: usize, groups: usize, random: &mut Random) -> FinderC
     }
 }
 
+/// The case with its groups in a drawn order. Hits may come in any order, and a pool of one input would be learnt by the branch predictor.
+fn reordered(call: &FinderCall, random: &mut Random) -> FinderCall {
+    let mut order: Vec<usize> = (0..call.groups.len()).collect();
+    for i in 1..order.len() {
+        order.swap(i, random.below(i as u64 + 1) as usize);
+    }
+    let lengths: Vec<usize> = call.groups.iter().map(|&length| length as usize).collect();
+    let first = |group: usize| lengths[..group].iter().sum::<usize>();
+    let hits: Vec<usize> = order.iter().flat_map(|&group| first(group)..first(group) + lengths[group]).collect();
+    let taken = |list: &[u32]| if list.is_empty() { vec![] } else { hits.iter().map(|&hit| list[hit]).collect() };
+    FinderCall {
+        groups: order.iter().map(|&group| call.groups[group]).collect(),
+        contigs: taken(&call.contigs),
+        starts: taken(&call.starts),
+        ends: taken(&call.ends),
+        ..call.clone()
+    }
+}
+
 /// Memory for any finder of a pool.
 struct Memory {
     keys: Vec<u64>,
@@ -121,6 +140,8 @@ fn time(rounds: usize, pool: &[FinderCall]) -> Times {
     Times { original: times.original * each, proved: times.proved * each, ratio: times.ratio }
 }
 
+/// Orders of a real case.
+const ORDERS: usize = 200;
 const SIZES: [(usize, usize); 2] = [(2_000, 240), (60_000, 4_096)];
 
 fn main() {
@@ -137,7 +158,9 @@ fn main() {
             println!("| {name} | {hits} | {groups} | {:.1} | {:.1} | {:.2} |", times.original * 1e6, times.proved * 1e6, times.ratio);
         }
         for call in real.iter().filter(|call| call.mode == mode) {
-            let times = time(rounds, std::slice::from_ref(call));
+            let mut random = Random::new(1);
+            let pool: Vec<FinderCall> = (0..ORDERS).map(|_| reordered(call, &mut random)).collect();
+            let times = time(rounds, &pool);
             let (hits, groups) = (call.contigs.len(), call.groups.len());
             println!("| {name}, real | {hits} | {groups} | {:.1} | {:.1} | {:.2} |", times.original * 1e6, times.proved * 1e6, times.ratio);
         }
