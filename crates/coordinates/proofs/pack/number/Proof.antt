@@ -1,9 +1,8 @@
--- `coordinates::pack::number` meets its contract: sorted keys hold every place, and the whole hashes where the bits of all are below 2 ^ 48. Assumes nothing.
-use mathlib.Core.Path.{sym, _∙_}
-use Prim.Native.Nat.{_^_, _<_}
+-- `coordinates::pack::number` meets its contract: the walk is taken only where the keys hold every place. Assumes nothing.
+use mathlib.Core.Path.{sym, subst, _∙_}
+use Prim.Native.Nat.{ℕ}
 use native.Mathlib.Omega.{arith}
-use denote.Ref.{now}
-use Rattle.coordinates.proofs.Keys.{sorted-places, sorted-whole, sorted-long, within}
+use Rattle.coordinates.specs.Packed.{Placed}
 use borrow.Author.Needs.{needs}
 use Rattle.coordinates.proofs.pack.number.Statement.{statement}
 use Rattle.coordinates.proofs.pack.number.Tie as tie
@@ -14,21 +13,23 @@ bits-of-requires c κs = search needs
 bits-of-requires-2 : tie.Need-bits-of-requires-2
 bits-of-requires-2 c κs = search needs
 
-sort-packed-requires : tie.Need-sort-packed-requires
-sort-packed-requires c κs = search needs
+shift-of-requires : tie.Need-shift-of-requires
+shift-of-requires c κs = search needs
 
-walk-keys-requires : tie.Need-walk-keys-requires
-walk-keys-requires c κs =
-    let d = c .before .before .before .before in
-    let t = d .before .before in
-    let s = t .before .before .before .before .before .before .before in
-    let q = now (s .args .query) in
-    let h = now (s .args .hashes) in
-    let u = t .before .bits-of2 in
-    let v = t .before .before .bits-of in
-    let small : u .result < 2 ^ 48 = t .if1 .taken in
-    let e = d .sort-packed .ensures in
-    (sorted-places 16 q h (s .pre .few) e, sorted-whole q h (s .pre .few) e (within (v .result) (2 ^ 48) q (v .ensures .1) (omega (arith, u .ensures .0))) (within (u .result) (2 ^ 48) h (u .ensures .1) small), s .pre .coord-room ∙ sym (sorted-long 16 q h (s .pre .few) e))
+spread-requires : tie.Need-spread-requires
+spread-requires c κs = search needs
+
+placed-requires : tie.Need-placed-requires
+placed-requires c κs = search needs
+
+walk-requires : tie.Need-walk-requires
+walk-requires c κs =
+    let p = c .before .before .before .before .before in
+    let k = p .before .before .before .before .before in
+    let s = k .before .before .before .before .before .before .before .before .before in
+    let many = k .spread .kept .1 .1 .1 .0 ∙ s .pre .key-room in
+    let here = p .placed .ensures (c .before .before .if1 .taken) in
+    (record { few = s .pre .few; many = many; placed = subst (λ (m : ℕ). Placed m (k .spread .last .1 .1 .1 .0)) (s .pre .coord-room) here }, p .placed .kept .1 .0 ∙ s .pre .coord-room ∙ sym many)
 
 same-length : tie.Need-same-length
 same-length c = search needs
@@ -39,21 +40,6 @@ same-length-2 c = search needs
 returns : tie.Need-returns
 returns c = search needs
 
-shift-of-requires : tie.Need-shift-of-requires
-shift-of-requires c κs = search needs
-
-sort-packed-requires-2 : tie.Need-sort-packed-requires-2
-sort-packed-requires-2 c κs = search needs
-
-walk-hashes-requires : tie.Need-walk-hashes-requires
-walk-hashes-requires c κs =
-    let d = c .before .before .before .before in
-    let s = d .before .before .before .before .before .before .before .before .before .before in
-    let q = now (s .args .query) in
-    let h = now (s .args .hashes) in
-    let e = d .sort-packed2 .ensures in
-    (sorted-places _ q h (s .pre .few) e, s .pre .coord-room ∙ sym (sorted-long _ q h (s .pre .few) e))
-
 same-length-3 : tie.Need-same-length-3
 same-length-3 c = search needs
 
@@ -61,7 +47,7 @@ same-length-4 : tie.Need-same-length-4
 same-length-4 c = search needs
 
 returns-2 : tie.Need-returns-2
-returns-2 c = search needs
+returns-2 c = λ l. absurd (omega arith)
 
 pub number-spec : {M : Type 1} → statement M
 number-spec =
@@ -69,14 +55,13 @@ number-spec =
     (tie.spec
     bits-of-requires
     bits-of-requires-2
-    sort-packed-requires
-    walk-keys-requires
+    shift-of-requires
+    spread-requires
+    placed-requires
+    walk-requires
     same-length
     same-length-2
     returns
-    shift-of-requires
-    sort-packed-requires-2
-    walk-hashes-requires
     same-length-3
     same-length-4
     returns-2)

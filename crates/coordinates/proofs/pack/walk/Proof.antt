@@ -1,14 +1,13 @@
--- `coordinates::pack::walk_hashes` meets its contract: the loop keeps `Walk`. Assumes nothing.
-use mathlib.Core.Path.{sym}
+-- `coordinates::pack::walk` meets its contract: the loop keeps `Walk`. Assumes nothing.
 use Rattle.coordinates.specs.Packed.{hashOf}
 use Prim.Native.Nat.{_-_}
-use mathlib.Core.Path.{_≡_, refl}
+use mathlib.Core.Path.{_≡_, sym}
 use lib.ListN.{length}
 use borrow.Author.Needs.{needs}
 use native.Mathlib.Omega.{arith}
-use Rattle.coordinates.proofs.Walk.{Walk, walk-start, walk-step, walk-end, whole-next}
-use Rattle.coordinates.proofs.pack.walk_hashes.Statement.{statement}
-use Rattle.coordinates.proofs.pack.walk_hashes.Tie as tie
+use Rattle.coordinates.proofs.Walk.{Walk, walk-start, walk-step, walk-end}
+use Rattle.coordinates.proofs.pack.walk.Statement.{statement}
+use Rattle.coordinates.proofs.pack.walk.Tie as tie
 
 abbrev Inv-loop : tie.InvT-loop
 Inv-loop query hashes keys coords₀ m prev₀ c₀ j₀ coords prev c j = Walk query hashes keys coords prev c j × (m ≡ length keys)
@@ -26,7 +25,7 @@ shared-slice-read-hash-at : tie.Need-shared-slice-read-hash-at Inv-loop μ-loop
 shared-slice-read-hash-at c = search needs
 
 hash-at-requires : tie.Need-hash-at-requires Inv-loop μ-loop
-hash-at-requires c κs = let s = c .before .before .before .before .before .before in s .pre .0 .fits 0 (omega arith)
+hash-at-requires c κs = let s = c .before .before .before .before .before .before in s .pre .0 .placed .fits 0 (omega arith)
 
 loop-holds : tie.Need-loop-holds Inv-loop μ-loop
 unfolding hashOf
@@ -45,7 +44,7 @@ hash-at-requires-2 : tie.Need-hash-at-requires-2 Inv-loop μ-loop
 hash-at-requires-2 c κs =
     let l = c .before .before in
     let s = l .before .before .before .before .before .before .before .before in
-    s .pre .0 .fits (l .loop .j) (omega arith)
+    s .pre .0 .placed .fits (l .loop .j) (omega arith)
 
 same-length : tie.Need-same-length Inv-loop μ-loop
 same-length c = search needs
@@ -63,7 +62,7 @@ slice-write-coords : tie.Need-slice-write-coords Inv-loop μ-loop
 slice-write-coords c =
     let l = c .before .before .before .before .before in
     let p = l .before .before .before .before .before .before .before .before .pre .0 in
-    omega (arith, p .fits (l .loop .j) (omega arith), p .many, l .loop .inv .0 .long)
+    omega (arith, p .placed .fits (l .loop .j) (omega arith), p .many, l .loop .inv .0 .long)
 
 add-j : tie.Need-add-j Inv-loop μ-loop
 add-j c = search needs
@@ -92,8 +91,8 @@ returns-3 c = λ _.
     let l = c .before in
     walk-end _ _ _ (l .before .before .before .before .before .before .before .before .pre .0) (l .loop .inv .0) (omega arith) (omega arith)
 
-pub walk-hashes-spec : {M : Type 1} → statement M
-walk-hashes-spec =
+pub walk-spec : {M : Type 1} → statement M
+walk-spec =
     tie.close
     (tie.spec
     Inv-loop
