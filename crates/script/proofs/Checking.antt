@@ -1,9 +1,9 @@
 -- The checks of a script: a walk that stops at the first element that fails, one over both lists that tells the coordinates, the chain of verdicts, and what
 -- a fine verdict tells of the lists, which is that they passed each test. Assumes nothing.
-use mathlib.Core.Path.{_≡_, sym, ap, _∙_, subst}
+use mathlib.Core.Path.{_≡_, refl, sym, ap, _∙_, subst}
 use mathlib.Core.Logic.{⊎-elim, _≢_}
 use mathlib.Core.Bool.{true, false, and-false}
-use mathlib.Core.List.{List}
+use mathlib.Core.List.{List, [], _∷_}
 use Prim.Native.Nat.{ℕ, _+_, _≤_, _<_}
 use native.Mathlib.Numerals.{add-one}
 use native.Mathlib.Omega.{arith}
@@ -66,14 +66,25 @@ module _ (coords query : List ℕ) (i : ℕ) where
   missing-end l = rw (drop-of-length-le query l)
 
 -- the steps
+bad-cons : (n i k : ℕ) (is ks : List ℕ) → i < n → k ≤ 1 → firstBadStep n (i ∷ is) (k ∷ ks) ≡ 1 + firstBadStep n is ks
+unfolding firstBadStep pick
+bad-cons n i k is ks a b = rw (lt-ltb i n a, le-leb k 1 b)
+
+-- none is bad where bounds of all indexes and of all kinds tell it
+pub bad-none : (n x y : ℕ) (is ks : List ℕ) → x < n → y ≤ 1 → length is ≡ length ks → All (λ i. i ≤ x) is → All (λ k. k ≤ y) ks → length is ≡ firstBadStep n is ks
+unfolding firstBadStep
+bad-none n x y [] ks l m e a b = refl
+bad-none n x y (i ∷ is) [] l m e a b = absurd (omega arith)
+bad-none n x y (i ∷ is) (k ∷ ks) l m e (a, as′) (b, bs) =
+    omega (arith, bad-cons n i k is ks (omega arith) (omega arith), bad-none n x y is ks l m (omega arith) as′ bs)
+
 abbrev pub badFrom : ℕ → List ℕ → List ℕ → ℕ → ℕ
 badFrom n indexes kinds i = firstBadStep n (drop i indexes) (drop i kinds)
 
 module _ (n : ℕ) (indexes kinds : List ℕ) (i : ℕ) where
   module _ (l : i < length indexes) (m : i < length kinds) where
     pub bad-next : getD indexes i 0 < n → getD kinds i 0 ≤ 1 → badFrom n indexes kinds i ≡ 1 + badFrom n indexes kinds (i + 1)
-    unfolding firstBadStep pick
-    bad-next a b = rw (drop-cons indexes i 0, drop-cons kinds i 0, lt-ltb (getD indexes i 0) n a, le-leb (getD kinds i 0) 1 b, add-one)
+    bad-next a b = rw (drop-cons indexes i 0, drop-cons kinds i 0, add-one) (bad-cons n (getD indexes i 0) (getD kinds i 0) _ _ a b)
 
     pub bad-index : n ≤ getD indexes i 0 → badFrom n indexes kinds i ≡ 0
     unfolding firstBadStep pick

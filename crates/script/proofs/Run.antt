@@ -1,5 +1,6 @@
 -- A step is the rules' move, and a run of steps answers after each what the rules' moves answer: what is done and what is left to do make the
--- whole. A count grows by one a step at most, so no count word overflows. Assumes nothing.
+-- whole, of a block of steps as of one, since both only go on with what was done. A count grows by one a step at most, so no count word overflows.
+-- Assumes nothing.
 use mathlib.Core.Path.{_≡_, refl, sym, ap, _∙_, subst}
 use mathlib.Core.Logic.{⊎-elim, _≢_}
 use mathlib.Core.Bool.{Bool, true, false}
@@ -8,7 +9,7 @@ use Prim.Native.Nat.{ℕ, _+_, _-_, _^_, _≤_, _<_}
 use native.Mathlib.Numerals.{add-one}
 use native.Mathlib.Omega.{arith}
 use lib.Dec.{eqb}
-use lib.ListN.{length, getD, set, drop, length-set, length-append, length-map, drop-of-length-le}
+use lib.ListN.{length, getD, set, drop, length-set, length-append, length-drop, length-map, drop-of-length-le}
 use lib.Seq.{getD-set-same, getD-set-other, drop-cons, append-snoc}
 use borrow.Author.Tests.{eq-eqb, ne-eqb}
 use Rattle.base.specs.Pick.{pick}
@@ -23,7 +24,7 @@ use Rattle.rules.proofs.Moves.{moved-counts}
 use Rattle.slide_mapper.specs.declared.Slide.{Slide}
 use Rattle.slide_mapper.specs.State.{flagsOf, countsOf, slideOf, Ready, Inserted, Deleted}
 use Rattle.slide_mapper.proofs.State.{counts-at, counts-length, flags-length, flags-set, ready-inserted, ready-deleted}
-use Rattle.script.specs.Work.{Stepped, lookOf, looksFrom, Start, Answered}
+use Rattle.script.specs.Work.{Steps, Stepped, lookOf, looksFrom, Underway, Answered, Reached, Further}
 
 -- ---- one step
 
@@ -77,10 +78,11 @@ map-snoc f [] y = refl
 map-snoc f (x ∷ xs) y = ap (λ (l : List ℕ). f x ∷ l) (map-snoc f xs y)
 
 -- one answer more in an output list
-pushed : (f : Look → ℕ) (done : List Look) (y : Look) (entry now : List ℕ) (j : ℕ) → now ≡ over (map f done) entry → length done ≡ j → j < length entry
+pushed : (f : Look → ℕ) (done : List Look) (y : Look) (entry now : List ℕ) (j : ℕ) → now ≡ over (map f done) entry → length done ≡ j → j < length now
     → set now j (f y) ≡ over (map f (done ++ (y ∷ []))) entry
 pushed f done y entry now j e n l =
     let long : length (map f done) ≡ j = length-map done f ∙ n in
+    let room : length now ≡ j + (length entry - j) = ap length e ∙ simp (length-append, length-drop, long) in
     ap (λ (x : List ℕ). set x j (f y)) e ∙ ap (λ (k : ℕ). set (over (map f done) entry) k (f y)) (sym long) ∙
     over-push (map f done) entry (f y) (omega (arith, long)) ∙ ap (λ (x : List ℕ). over x entry) (sym (map-snoc f done y))
 
@@ -94,91 +96,121 @@ looks-none : (ms : List Bool) (is ks : List ℕ) (j : ℕ) (s : moves.Slide) →
 unfolding looksFrom movedBy
 looks-none ms is ks j s l = rw (drop-of-length-le is l)
 
--- ---- a run, after j steps
+-- ---- the next step
 
-pub record Running (is ks cs₀ ws₀ ss₀ ps₀ ts₀ : List ℕ) (at₀ : Slide) (cs ws ss ps ts : List ℕ) (at : Slide) (j : ℕ) : Type 0 where
-  pub done : List Look
-  pub many : length done ≡ j
-  pub upto : j ≤ length is
-  pub ready : Ready cs ws ss at
-  pub flags : flagsOf cs ≡ flagsOf cs₀
-  pub few : (i : ℕ) → getD (countsOf cs) i 0 ≤ j
-  pub rest : done ++ looksFrom (flagsOf cs₀) (drop j is) (drop j ks) (slideOf cs at) ≡ looksFrom (flagsOf cs₀) is ks (slideOf cs₀ at₀)
-  pub answered : Answered (lookOf at₀) done ps₀ ts₀ ps ts (lookOf at)
-  pub counts-len : length cs ≡ length cs₀
-  pub words-len : length ws ≡ length ws₀
-  pub summary-len : length ss ≡ length ss₀
-  pub pivots-len : length ps ≡ length ps₀
-  pub shareds-len : length ts ≡ length ts₀
+module _ {is ks cs ws ss ps ts : List ℕ} {at : Slide} {j : ℕ} (u : Underway is ks cs ws ss ps ts at j) (l : j < length is) where
+  pub next-kind : j < length ks
+  next-kind = omega (arith, u .steps .parallel)
 
-module _ {is ks cs₀ ws₀ ss₀ ps₀ ts₀ : List ℕ} {at₀ : Slide} (s : Start is ks cs₀ ws₀ ss₀ ps₀ ts₀ at₀) where
-  pub running-start : Running is ks cs₀ ws₀ ss₀ ps₀ ts₀ at₀ cs₀ ws₀ ss₀ ps₀ ts₀ at₀ 0
-  unfolding lastOr
-  running-start = record {
-    done = [];
-    many = refl;
-    upto = omega arith;
-    ready = s .ready;
-    flags = refl;
-    few = λ i. omega (arith, s .none i);
-    rest = refl;
-    answered = record { pivots = refl; shareds = refl; last = refl };
-    counts-len = refl;
-    words-len = refl;
-    summary-len = refl;
-    pivots-len = refl;
-    shareds-len = refl;
+  pub next-in : getD is j 0 < length cs
+  next-in = all-at (λ i. i < length cs) is (u .steps .within) j l
+
+  pub next-fits : getD cs (getD is j 0) 0 + 2 < 2 ^ 32
+  next-fits = omega (arith, u .few (getD is j 0), counts-at cs (getD is j 0), u .steps .few)
+
+  module _ {cs′ ws′ ss′ : List ℕ} {at′ : Slide} (m : Stepped cs ws ss at (getD ks j 0) (getD is j 0) cs′ ws′ ss′ at′) where
+    next-underway : length cs′ ≡ length cs → Underway is ks cs′ ws′ ss′ (set ps j (at′ .pivot .0)) (set ts j (at′ .shared)) at′ (j + 1)
+    unfolding slideOf
+    next-underway e =
+        let kind = getD ks j 0 in
+        let i = getD is j 0 in
+        let counts : countsOf cs′ ≡ stepped kind i (countsOf cs) =
+        ap (λ (x : moves.Slide). x .counts) (m .slide) ∙ moved-counts (flagsOf cs) (slideOf cs at) (u .ready .slid) i (omega (arith, next-in, flags-length cs)) kind in
+        record {
+          ready = m .ready;
+          few = λ k. rw counts (counted kind i (countsOf cs) j k (omega (arith, next-in, counts-length cs)) (u .few));
+          steps = subst (λ (n : ℕ). Steps n is ks) (sym e) (u .steps);
+          outputs = record {
+            pivots = omega (arith, u .outputs .pivots, length-set ps j (at′ .pivot .0));
+            shareds = omega (arith, u .outputs .shareds, length-set ts j (at′ .shared));
+          };
+        }
+
+    next-reached : (ms : List Bool) (start : Look) (answers : List Look) (ps₀ ts₀ : List ℕ) → Reached ms is ks start answers ps₀ ts₀ cs ps ts at j
+        → Reached ms is ks start answers ps₀ ts₀ cs′ (set ps j (at′ .pivot .0)) (set ts j (at′ .shared)) at′ (j + 1)
+    unfolding slideLook slideOf
+    next-reached ms start answers ps₀ ts₀ t =
+        let now = slideOf cs at in
+        let y = lookOf at′ in
+        let next : slideOf cs′ at′ ≡ moved ms (getD ks j 0) (getD is j 0) now = m .slide ∙ ap (λ (x : List Bool). moved x (getD ks j 0) (getD is j 0) now) (t .flags) in
+        record {
+          done = t .done ++ (y ∷ []);
+          many = omega (arith, length-append (t .done) (y ∷ []), t .many);
+          flags = m .flags ∙ t .flags;
+          rest =
+              append-snoc (t .done) y (looksFrom ms (drop (j + 1) is) (drop (j + 1) ks) (slideOf cs′ at′)) ∙
+              ap (λ (x : moves.Slide). t .done ++ slideLook x ∷ looksFrom ms (drop (j + 1) is) (drop (j + 1) ks) x) next ∙
+              ap (λ (x : List Look). t .done ++ x) (sym (looks-next ms is ks j now l next-kind)) ∙ t .rest;
+          answered = record {
+            pivots = pushed (λ (x : Look). x .pivot) (t .done) y ps₀ ps j (t .answered .pivots) (t .many) (omega (arith, u .outputs .pivots));
+            shareds = pushed (λ (x : Look). x .shared) (t .done) y ts₀ ts j (t .answered .shareds) (t .many) (omega (arith, u .outputs .shareds));
+            last = sym (last-snoc start y (t .done));
+          };
+        }
+
+-- ---- a run: no step, one more, and as many more as a block has
+
+-- the lengths are kept
+pub record Kept (cs₀ ws₀ ss₀ ps₀ ts₀ cs ws ss ps ts : List ℕ) : Type 0 where
+  pub counts : length cs ≡ length cs₀
+  pub words : length ws ≡ length ws₀
+  pub summary : length ss ≡ length ss₀
+  pub pivots : length ps ≡ length ps₀
+  pub shareds : length ts ≡ length ts₀
+
+pub record Running (is ks cs₀ ws₀ ss₀ ps₀ ts₀ : List ℕ) (at₀ : Slide) (from end : ℕ) (cs ws ss ps ts : List ℕ) (at : Slide) (j : ℕ) : Type 0 where
+  pub upto : j ≤ end
+  pub kept : Kept cs₀ ws₀ ss₀ ps₀ ts₀ cs ws ss ps ts
+  pub further : Further is ks cs₀ ps₀ ts₀ at₀ from cs ws ss ps ts at j
+
+pub running-start : {is ks cs ws ss ps ts : List ℕ} {at : Slide} {from end : ℕ} → Underway is ks cs ws ss ps ts at from → from ≤ end
+    → Running is ks cs ws ss ps ts at from end cs ws ss ps ts at from
+running-start u l = record {
+  upto = l;
+  kept = record { counts = refl; words = refl; summary = refl; pivots = refl; shareds = refl };
+  further = record { underway = u; reached = λ ms start answers ps₀ ts₀ t. t };
+}
+
+module _ {is ks cs₀ ws₀ ss₀ ps₀ ts₀ : List ℕ} {at₀ : Slide} {from end : ℕ} {cs ws ss ps ts : List ℕ} {at : Slide} {j : ℕ}
+    (r : Running is ks cs₀ ws₀ ss₀ ps₀ ts₀ at₀ from end cs ws ss ps ts at j) where
+  pub running-block : {cs′ ws′ ss′ ps′ ts′ : List ℕ} {at′ : Slide} {k : ℕ} → k ≤ end → Further is ks cs ps ts at j cs′ ws′ ss′ ps′ ts′ at′ k
+      → Kept cs ws ss ps ts cs′ ws′ ss′ ps′ ts′ → Running is ks cs₀ ws₀ ss₀ ps₀ ts₀ at₀ from end cs′ ws′ ss′ ps′ ts′ at′ k
+  running-block l f e = record {
+    upto = l;
+    kept = record {
+      counts = e .counts ∙ r .kept .counts;
+      words = e .words ∙ r .kept .words;
+      summary = e .summary ∙ r .kept .summary;
+      pivots = e .pivots ∙ r .kept .pivots;
+      shareds = e .shareds ∙ r .kept .shareds;
+    };
+    further = record { underway = f .underway; reached = λ ms start answers p t x. f .reached ms start answers p t (r .further .reached ms start answers p t x) };
   }
 
-  module _ {cs ws ss ps ts : List ℕ} {at : Slide} {j : ℕ} (r : Running is ks cs₀ ws₀ ss₀ ps₀ ts₀ at₀ cs ws ss ps ts at j) where
-    module _ (l : j < length is) where
-      pub running-kind : j < length ks
-      running-kind = omega (arith, s .steps .parallel)
+  pub running-step : j < end → end ≤ length is → {cs′ ws′ ss′ : List ℕ} {at′ : Slide} → Stepped cs ws ss at (getD ks j 0) (getD is j 0) cs′ ws′ ss′ at′
+      → length cs′ ≡ length cs → length ws′ ≡ length ws → length ss′ ≡ length ss
+      → Running is ks cs₀ ws₀ ss₀ ps₀ ts₀ at₀ from end cs′ ws′ ss′ (set ps j (at′ .pivot .0)) (set ts j (at′ .shared)) at′ (j + 1)
+  running-step l h {cs′} {ws′} {ss′} {at′} m a b c =
+      let u = r .further .underway in
+      let n : j < length is = omega arith in
+      running-block (omega arith) (record { underway = next-underway u n m a; reached = next-reached u n m })
+      (record { counts = a; words = b; summary = c; pivots = length-set ps j (at′ .pivot .0); shareds = length-set ts j (at′ .shared) })
 
-      pub running-in : getD is j 0 < length cs
-      running-in = omega (arith, all-at (λ i. i < length cs₀) is (s .steps .within) j l, r .counts-len)
+  -- all of them
+  pub running-all : end ≤ j → Further is ks cs₀ ps₀ ts₀ at₀ from cs ws ss ps ts at end
+  running-all l =
+      let e : j ≡ end = omega (arith, r .upto) in
+      subst (λ (k : ℕ). Further is ks cs₀ ps₀ ts₀ at₀ from cs ws ss ps ts at k) e (r .further)
 
-      pub running-fits : getD cs (getD is j 0) 0 + 2 < 2 ^ 32
-      running-fits = omega (arith, r .few (getD is j 0), counts-at cs (getD is j 0), s .steps .few)
-
-      pub running-step : {cs′ ws′ ss′ : List ℕ} {at′ : Slide} → Stepped cs ws ss at (getD ks j 0) (getD is j 0) cs′ ws′ ss′ at′
-          → length cs′ ≡ length cs → length ws′ ≡ length ws → length ss′ ≡ length ss
-          → Running is ks cs₀ ws₀ ss₀ ps₀ ts₀ at₀ cs′ ws′ ss′ (set ps j (at′ .pivot .0)) (set ts j (at′ .shared)) at′ (j + 1)
-      unfolding slideLook slideOf
-      running-step {cs′} {ws′} {ss′} {at′} m a b c =
-          let kind = getD ks j 0 in
-          let i = getD is j 0 in
-          let ms = flagsOf cs₀ in
-          let now = slideOf cs at in
-          let y = lookOf at′ in
-          let next : slideOf cs′ at′ ≡ moved ms kind i now = m .slide ∙ ap (λ (x : List Bool). moved x kind i now) (r .flags) in
-          let counts : countsOf cs′ ≡ stepped kind i (countsOf cs) =
-          ap (λ (x : moves.Slide). x .counts) (m .slide) ∙ moved-counts (flagsOf cs) now (r .ready .slid) i (omega (arith, running-in, flags-length cs)) kind in
-          record {
-            done = r .done ++ (y ∷ []);
-            many = omega (arith, length-append (r .done) (y ∷ []), r .many);
-            upto = omega arith;
-            ready = m .ready;
-            flags = m .flags ∙ r .flags;
-            few = λ k. rw counts (counted kind i (countsOf cs) j k (omega (arith, running-in, counts-length cs)) (r .few));
-            rest =
-                append-snoc (r .done) y (looksFrom ms (drop (j + 1) is) (drop (j + 1) ks) (slideOf cs′ at′)) ∙
-                ap (λ (x : moves.Slide). r .done ++ slideLook x ∷ looksFrom ms (drop (j + 1) is) (drop (j + 1) ks) x) next ∙
-                ap (λ (x : List Look). r .done ++ x) (sym (looks-next ms is ks j now l running-kind)) ∙ r .rest;
-            answered = record {
-              pivots = pushed (λ (x : Look). x .pivot) (r .done) y ps₀ ps j (r .answered .pivots) (r .many) (omega (arith, s .outputs .pivots));
-              shareds = pushed (λ (x : Look). x .shared) (r .done) y ts₀ ts j (r .answered .shareds) (r .many) (omega (arith, s .outputs .shareds));
-              last = sym (last-snoc (lookOf at₀) y (r .done));
-            };
-            counts-len = a ∙ r .counts-len;
-            words-len = b ∙ r .words-len;
-            summary-len = c ∙ r .summary-len;
-            pivots-len = length-set ps j (at′ .pivot .0) ∙ r .pivots-len;
-            shareds-len = length-set ts j (at′ .shared) ∙ r .shareds-len;
-          }
-
-    pub running-end : length is ≤ j → Answered (lookOf at₀) (looksFrom (flagsOf cs₀) is ks (slideOf cs₀ at₀)) ps₀ ts₀ ps ts (lookOf at)
-    running-end l =
-        let all : r .done ≡ looksFrom (flagsOf cs₀) is ks (slideOf cs₀ at₀) =
-        sym (append-nil (r .done)) ∙ ap (λ (x : List Look). r .done ++ x) (sym (looks-none (flagsOf cs₀) is ks j (slideOf cs at) l)) ∙ r .rest in
-        subst (λ (x : List Look). Answered (lookOf at₀) x ps₀ ts₀ ps ts (lookOf at)) all (r .answered)
+-- a run from the first step to the last
+pub further-whole : {is ks cs₀ ps₀ ts₀ cs ws ss ps ts : List ℕ} {at₀ at : Slide} → Further is ks cs₀ ps₀ ts₀ at₀ 0 cs ws ss ps ts at (length is)
+    → Answered (lookOf at₀) (looksFrom (flagsOf cs₀) is ks (slideOf cs₀ at₀)) ps₀ ts₀ ps ts (lookOf at)
+unfolding lastOr
+further-whole {is} {ks} {cs₀} {ps₀} {ts₀} {cs} {ws} {ss} {ps} {ts} {at₀} {at} f =
+    let ms = flagsOf cs₀ in
+    let whole = looksFrom ms is ks (slideOf cs₀ at₀) in
+    let t : Reached ms is ks (lookOf at₀) whole ps₀ ts₀ cs ps ts at (length is) =
+    f .reached ms (lookOf at₀) whole ps₀ ts₀ (record { done = []; many = refl; flags = refl; rest = refl; answered = record { pivots = refl; shareds = refl; last = refl } }) in
+    let all : t .done ≡ whole =
+    sym (append-nil (t .done)) ∙ ap (λ (x : List Look). t .done ++ x) (sym (looks-none ms is ks (length is) (slideOf cs at) (omega arith))) ∙ t .rest in
+    subst (λ (x : List Look). Answered (lookOf at₀) x ps₀ ts₀ ps ts (lookOf at)) all (t .answered)

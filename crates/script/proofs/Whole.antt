@@ -4,6 +4,7 @@ use mathlib.Core.Path.{_≡_, refl, sym, ap, _∙_, subst}
 use mathlib.Core.Bool.{Bool}
 use mathlib.Core.List.{List, _++_}
 use Prim.Native.Nat.{ℕ}
+use native.Mathlib.Omega.{arith}
 use lib.ListN.{length, getD, drop, replicate, length-replicate}
 use Rattle.base.specs.declared.Refusal.{Refusal}
 use Rattle.base.specs.declared.Verdict.{Verdict}
@@ -53,7 +54,7 @@ module _ {query coords indexes kinds cs ws ss : List ℕ} {at : Slide} {ps ts : 
   no-count i = ap (λ (x : moves.Slide). getD (x .counts) i 0) (b .slide) ∙ zeros-at (length coords) i
 
   pub start-run : length cs ≡ length coords → Start indexes kinds cs ws ss ps ts at
-  start-run e = record { ready = b .ready; none = no-count; steps = subst (λ (m : ℕ). Steps m indexes kinds) (sym e) (a .steps); outputs = a .outputs }
+  start-run e = record { ready = b .ready; few = λ i. omega (arith, no-count i); steps = subst (λ (m : ℕ). Steps m indexes kinds) (sym e) (a .steps); outputs = a .outputs }
 
   abbrev s : Sound query coords
   s = a .sound

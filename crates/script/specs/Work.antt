@@ -1,9 +1,9 @@
 -- What the parts of the work promise each other, over work lists of exactly the needed sizes.
 use mathlib.Core.Path.{_≡_}
 use mathlib.Core.Bool.{Bool, true}
-use mathlib.Core.List.{List, map}
+use mathlib.Core.List.{List, _++_, map}
 use Prim.Native.Nat.{ℕ, _≤_, _<_}
-use lib.ListN.{length, getD, replicate}
+use lib.ListN.{length, getD, drop, replicate}
 use Rattle.base.specs.Pick.{pick}
 use Rattle.base.specs.Lists.{All, StrictAsc}
 use Rattle.base.specs.Buffers.{over}
@@ -77,18 +77,36 @@ lookOf at = record { pivot = at .pivot .0; shared = at .shared }
 unfoldable pub looksFrom : List Bool → List ℕ → List ℕ → moves.Slide → List Look
 looksFrom ms indexes kinds s = map slideLook (movedBy ms indexes kinds s)
 
--- what a run asks: a state with no active reference, steps within the coordinates, room for their answers
-pub record Start (indexes kinds cs ws ss ps ts : List ℕ) (at : Slide) : Type 0 where
+-- a state after j steps of a run: no count above j, steps within the coordinates, room for their answers
+pub record Underway (indexes kinds cs ws ss ps ts : List ℕ) (at : Slide) (j : ℕ) : Type 0 where
   pub ready : Ready cs ws ss at
-  pub none : (i : ℕ) → getD (countsOf cs) i 0 ≡ 0
+  pub few : (i : ℕ) → getD (countsOf cs) i 0 ≤ j
   pub steps : Steps (length cs) indexes kinds
   pub outputs : Outputs (length indexes) ps ts
+
+-- what a run asks: the state before its first step, with no active reference
+abbrev pub Start : (indexes kinds cs ws ss ps ts : List ℕ) → Slide → Type 0
+Start indexes kinds cs ws ss ps ts at = Underway indexes kinds cs ws ss ps ts at 0
 
 -- the answers stand over the fronts of both output lists, and the end is the last of them, or the start where there is none
 pub record Answered (start : Look) (answers : List Look) (ps ts ps′ ts′ : List ℕ) (end : Look) : Type 0 where
   pub pivots : ps′ ≡ over (map (λ (l : Look). l .pivot) answers) ps
   pub shareds : ts′ ≡ over (map (λ (l : Look). l .shared) answers) ts
   pub last : end ≡ lastOr start answers
+
+-- of a run's answers j are done and stand in the outputs, and the steps from j on give the others
+pub record Reached (ms : List Bool) (indexes kinds : List ℕ) (start : Look) (answers : List Look) (ps ts cs ps′ ts′ : List ℕ) (at : Slide) (j : ℕ) : Type 0 where
+  pub done : List Look
+  pub many : length done ≡ j
+  pub flags : flagsOf cs ≡ ms
+  pub rest : done ++ looksFrom ms (drop j indexes) (drop j kinds) (slideOf cs at) ≡ answers
+  pub answered : Answered start done ps ts ps′ ts′ (lookOf at)
+
+-- the steps from i to j: in whatever run i answers were done before, j are done after
+pub record Further (indexes kinds cs ps ts : List ℕ) (at : Slide) (i : ℕ) (cs′ ws′ ss′ ps′ ts′ : List ℕ) (r : Slide) (j : ℕ) : Type 0 where
+  pub underway : Underway indexes kinds cs′ ws′ ss′ ps′ ts′ r j
+  pub reached : (ms : List Bool) (start : Look) (answers : List Look) (ps₀ ts₀ : List ℕ)
+      → Reached ms indexes kinds start answers ps₀ ts₀ cs ps ts at i → Reached ms indexes kinds start answers ps₀ ts₀ cs′ ps′ ts′ r j
 
 -- the whole work: the answers are the rules', from the state with no active reference, and the work lists are clear
 pub record Worked (s : Script) (ps ts cs′ ws′ ss′ ps′ ts′ : List ℕ) (r : Slide) : Type 0 where

@@ -2,7 +2,7 @@
 ghost use mathlib.Core.Path.{_≡_};
 ghost use Prim.Native.Nat.{_^_, _≤_, _<_};
 ghost use lib.ListN.{length};
-ghost use Rattle.base.specs.Lists.{StrictAsc};
+ghost use Rattle.base.specs.Lists.{All, StrictAsc};
 ghost use Rattle.base.specs.Verdicts.{refuse};
 ghost use Rattle.rules.specs.Checks.{scriptSizes, scriptOrders, firstMissing, firstBadStep, scriptMembers, scriptNeeds};
 ghost use Rattle.rules.specs.Refusals.{scriptVerdict};
@@ -84,8 +84,36 @@ fn first_missing(query: &[u64], coords: &[u64]) -> usize
     q
 }
 
-// The index of the first step that is past the n coordinates or of no kind, or the number of steps.
-fn first_bad_step(n: usize, indexes: &[u32], kinds: &[u8]) -> usize
+fn larger(x: u32, y: u32) -> u32
+    ensures { λ r. ⌜ (x ≤ r) × (y ≤ r) ⌝ }
+{
+    if x < y { y } else { x }
+}
+
+// The largest index, or 0: no less than each of them.
+fn largest(indexes: &[u32]) -> u32
+    ensures { λ r. ⌜ All (λ i. i ≤ r) (now (indexes .entry)) ⌝ }
+{
+    let mut most = 0;
+    for i in 0..indexes.len() {
+        most = larger(most, indexes[i]);
+    }
+    most
+}
+
+// The bits that any of the kinds has: as a number, no less than each of them.
+fn bits_of(kinds: &[u8]) -> u8
+    ensures { λ r. ⌜ All (λ k. k ≤ r) (now (kinds .entry)) ⌝ }
+{
+    let mut bits = 0;
+    for i in 0..kinds.len() {
+        bits = bits | kinds[i];
+    }
+    bits
+}
+
+// The index of the first step that is past the n coordinates or of no kind, or the number of steps, step by step.
+fn find_bad_step(n: usize, indexes: &[u32], kinds: &[u8]) -> usize
     requires { ⌜ length (now indexes) ≡ length (now kinds) ⌝ }
     ensures { λ r. ⌜ r ≡ firstBadStep n (now (indexes .entry)) (now (kinds .entry)) ⌝ }
 {
@@ -100,6 +128,22 @@ fn first_bad_step(n: usize, indexes: &[u32], kinds: &[u8]) -> usize
         i += 1;
     }
     i
+}
+
+// The same, with a quick look first: the largest index and the bits of all kinds tell whether any step is bad, by loops with no exit,
+// which the compiler makes into vector code.
+fn first_bad_step(n: usize, indexes: &[u32], kinds: &[u8]) -> usize
+    requires { ⌜ length (now indexes) ≡ length (now kinds) ⌝ }
+    ensures { λ r. ⌜ r ≡ firstBadStep n (now (indexes .entry)) (now (kinds .entry)) ⌝ }
+{
+    let most = largest(indexes);
+    if n <= most as usize {
+        return find_bad_step(n, indexes, kinds);
+    }
+    if 1 < bits_of(kinds) {
+        return find_bad_step(n, indexes, kinds);
+    }
+    indexes.len()
 }
 
 // 6.

@@ -1,11 +1,11 @@
 // The work of a script that passed its checks, over work lists of exactly the needed sizes: the query is marked in the count words, the
 // mapper begins, and each step moves it.
 ghost use mathlib.Core.Path.{_≡_};
-ghost use Prim.Native.Nat.{_+_, _^_, _<_};
+ghost use Prim.Native.Nat.{_+_, _^_, _≤_, _<_};
 ghost use lib.ListN.{length, getD, replicate};
 ghost use Rattle.slide_mapper.specs.State.{flagsOf, slideOf, Ready};
 ghost use Rattle.script.specs.Given.{scriptOf};
-ghost use Rattle.script.specs.Work.{Sound, Accepted, Exact, Clear, marked, Begun, Stepped, lookOf, looksFrom, Start, Answered, Worked};
+ghost use Rattle.script.specs.Work.{Sound, Accepted, Exact, Clear, marked, Begun, Stepped, lookOf, looksFrom, Underway, Start, Answered, Further, Worked};
 use crate::walk;
 use base::Coord;
 use slide_mapper::Slide;
@@ -61,7 +61,49 @@ fn step(
     slide_mapper::delete_ref(counts, words, summary, at, coord)
 }
 
-// All steps, each with its answer.
+// The steps of a block, each with its answer.
+fn run_block(
+    indexes: &[u32],
+    kinds: &[u8],
+    counts: &mut [u32],
+    words: &mut [u64],
+    summary: &mut [u64],
+    pivots: &mut [u32],
+    shareds: &mut [u32],
+    start: Slide,
+    from: usize,
+    end: usize,
+) -> Slide
+    requires { ⌜ Underway (now indexes) (now kinds) (now counts) (now words) (now summary) (now pivots) (now shareds) start from × (from ≤ end) × (end ≤ length (now indexes)) ⌝ }
+    ensures { λ r. ⌜ Further (now (indexes .entry)) (now (kinds .entry)) (now (counts .entry)) (now (pivots .entry)) (now (shareds .entry)) start from (now (counts .exit)) (now (words .exit)) (now (summary .exit)) (now (pivots .exit)) (now (shareds .exit)) r end ⌝ }
+{
+    let mut at = start;
+    let mut j = from;
+    while j < end {
+        let kind = kinds[j];
+        let index = indexes[j];
+        at = step(counts, words, summary, at, kind, Coord(index));
+        let pivot = at.pivot;
+        pivots[j] = pivot.0;
+        shareds[j] = at.shared;
+        j += 1;
+    }
+    at
+}
+
+// Where the block that begins at step j ends. Any size is right.
+fn block_end(j: usize, steps: usize) -> usize
+    requires { ⌜ j < steps ⌝ }
+    ensures { λ r. ⌜ (j < r) × (r ≤ steps) ⌝ }
+{
+    if steps - j <= 64 {
+        return steps;
+    }
+    j + 64
+}
+
+// All steps, each with its answer, in blocks: two loops deep the compiler takes the moves into the loop. Called, a move hands its pair
+// back through memory in two halves that are read as one, which stalls.
 fn run(
     indexes: &[u32],
     kinds: &[u8],
@@ -78,13 +120,20 @@ fn run(
     let mut at = start;
     let mut j = 0;
     while j < indexes.len() {
-        let kind = kinds[j];
-        let index = indexes[j];
-        at = step(counts, words, summary, at, kind, Coord(index));
-        let pivot = at.pivot;
-        pivots[j] = pivot.0;
-        shareds[j] = at.shared;
-        j += 1;
+        let end = block_end(j, indexes.len());
+        at = run_block(
+            indexes,
+            kinds,
+            counts,
+            words,
+            summary,
+            pivots,
+            shareds,
+            at,
+            j,
+            end,
+        );
+        j = end;
     }
     at
 }

@@ -1,92 +1,48 @@
--- `first_bad_step` passes the steps whose index and kind are within bounds, and stops at the first that is not.
-use Prim.Native.Nat.{ℕ, _≤_, _<_, _-_}
-use mathlib.Core.List.{List}
-use native.Mathlib.Omega.{arith}
+-- `first_bad_step` finds no bad step where the bounds of all indexes and of all kinds tell it, and else looks for the first.
 use borrow.Author.Needs.{needs}
 use denote.Ref.{now}
-use lib.ListN.{length}
-use Rattle.script.proofs.Checking.{Passed, passed-none, passed-more, passed-stop, badFrom, bad-next, bad-index, bad-kind, bad-end}
+use Rattle.script.proofs.Checking.{bad-none}
 use Rattle.script.proofs.checks.first_bad_step.Statement.{statement}
 use Rattle.script.proofs.checks.first_bad_step.Tie as tie
 
-abbrev Inv-loop : tie.InvT-loop
-Inv-loop n indexes kinds i₀ i =
-    (i ≤ length indexes) × Passed (badFrom n indexes kinds) i
+largest-requires : tie.Need-largest-requires
+largest-requires c κs = search needs
 
-abbrev μ-loop : tie.MeasureT-loop
-μ-loop n indexes kinds i₀ i =
-    length indexes - i
+cast-if1 : tie.Need-cast-if1
+cast-if1 c = search needs
 
--- the arguments, from the loop's head
-abbrev n : tie.At-loop Inv-loop μ-loop → ℕ
-n l = l .before .args .n
+find-bad-step-requires : tie.Need-find-bad-step-requires
+find-bad-step-requires c κs = search needs
 
-abbrev indexes : tie.At-loop Inv-loop μ-loop → List ℕ
-indexes l = now (l .before .args .indexes)
+returns : tie.Need-returns
+returns c = search needs
 
-abbrev kinds : tie.At-loop Inv-loop μ-loop → List ℕ
-kinds l = now (l .before .args .kinds)
+bits-of-requires : tie.Need-bits-of-requires
+bits-of-requires c κs = search needs
 
--- the step has a kind
-in-kinds : (d : tie.In-loop Inv-loop μ-loop) → d .before .loop .i < length (kinds (d .before))
-in-kinds d = omega (arith, d .loop-test .taken, d .before .before .pre)
+find-bad-step-requires-2 : tie.Need-find-bad-step-requires-2
+find-bad-step-requires-2 c κs = search needs
 
-loop-holds : tie.Need-loop-holds Inv-loop μ-loop
-loop-holds c = (omega arith, passed-none)
+returns-2 : tie.Need-returns-2
+returns-2 c = search needs
 
-mul-if1 : tie.Need-mul-if1 Inv-loop μ-loop
-mul-if1 c = search needs
-
-shared-slice-read-if1 : tie.Need-shared-slice-read-if1 Inv-loop μ-loop
-shared-slice-read-if1 c = search needs
-
-cast-if1 : tie.Need-cast-if1 Inv-loop μ-loop
-cast-if1 c = omega (arith, c .shared-slice-known .given (c .before .before .loop .i))
-
-returns : tie.Need-returns Inv-loop μ-loop
-returns c =
-    let d = c .before .before in
-    let l = d .before in
-    passed-stop (l .loop .inv .1) (bad-index (n l) (indexes l) (kinds l) (l .loop .i) (d .loop-test .taken) (in-kinds d) (c .if1 .taken))
-
-shared-slice-read-if2 : tie.Need-shared-slice-read-if2 Inv-loop μ-loop
-shared-slice-read-if2 c = in-kinds (c .before .before .before)
-
-returns-2 : tie.Need-returns-2 Inv-loop μ-loop
-returns-2 c =
-    let d = c .before .before .before .before in
-    let l = d .before in
-    passed-stop (l .loop .inv .1) (bad-kind (n l) (indexes l) (kinds l) (l .loop .i) (d .loop-test .taken) (in-kinds d) (c .if2 .taken))
-
-add-i : tie.Need-add-i Inv-loop μ-loop
-add-i c = search needs
-
-loop-less : tie.Need-loop-less Inv-loop μ-loop
-loop-less c = search needs
-
-loop-again : tie.Need-loop-again Inv-loop μ-loop
-loop-again c =
-    let d = c .before .before .before .before in
-    let l = d .before in
-    (omega arith, passed-more (l .loop .inv .1) (bad-next (n l) (indexes l) (kinds l) (l .loop .i) (d .loop-test .taken) (in-kinds d) (c .before .before .if1 .left) (c .if2 .left)))
-
-returns-3 : tie.Need-returns-3 Inv-loop μ-loop
-returns-3 c = let l = c .before in passed-stop (l .loop .inv .1) (bad-end (n l) (indexes l) (kinds l) (l .loop .i) (c .loop-test .left))
+returns-3 : tie.Need-returns-3
+returns-3 c =
+    let b = c .before in
+    let m = b .before .before in
+    let t = m .before .before .before in
+    bad-none (t .args .n) (m .largest .result) (b .bits-of .result) (now (t .args .indexes)) (now (t .args .kinds)) (b .before .if1 .left) (c .if2 .left) (t .pre)
+    (m .largest .ensures) (b .bits-of .ensures)
 
 pub first-bad-step-spec : {M : Type 1} → statement M
 first-bad-step-spec =
     tie.close
     (tie.spec
-    Inv-loop
-    μ-loop
-    loop-holds
-    mul-if1
-    shared-slice-read-if1
+    largest-requires
     cast-if1
+    find-bad-step-requires
     returns
-    shared-slice-read-if2
+    bits-of-requires
+    find-bad-step-requires-2
     returns-2
-    add-i
-    loop-less
-    loop-again
     returns-3)

@@ -1,71 +1,43 @@
--- `run` answers after each step what the rules' moves answer: what is done and what is left make the whole.
+-- `run` answers after each step what the rules' moves answer: each block goes on with what those before it did.
 use Prim.Native.Nat.{_-_}
+use native.Mathlib.Omega.{arith}
 use borrow.Author.Needs.{needs}
 use lib.ListN.{length}
-use Rattle.script.proofs.Run.{Running, running-start, running-kind, running-in, running-fits, running-step, running-end}
+use Rattle.script.proofs.Run.{Running, running-start, running-block, running-all, further-whole}
 use Rattle.script.proofs.work.run.Statement.{statement}
 use Rattle.script.proofs.work.run.Tie as tie
 
 abbrev Inv-loop : tie.InvT-loop
 Inv-loop indexes kinds counts₀ words₀ summary₀ pivots₀ shareds₀ at₀ j₀ counts words summary pivots shareds at j =
-    Running indexes kinds counts₀ words₀ summary₀ pivots₀ shareds₀ at₀ counts words summary pivots shareds at j
+    Running indexes kinds counts₀ words₀ summary₀ pivots₀ shareds₀ at₀ 0 (length indexes) counts words summary pivots shareds at j
 
 abbrev μ-loop : tie.MeasureT-loop
 μ-loop indexes kinds counts₀ words₀ summary₀ pivots₀ shareds₀ at₀ j₀ counts words summary pivots shareds at j =
     length indexes - j
 
--- the entry, from the loop's head
-abbrev st : tie.At-loop Inv-loop μ-loop → tie.Start Inv-loop μ-loop
-st l = l .before .before .before .before .before .before .before .before
-
--- the loop's body, from the call of `step`
-abbrev body : tie.After-step Inv-loop μ-loop → tie.In-loop Inv-loop μ-loop
-body d = d .before .before .before .before .before .before
-
 loop-holds : tie.Need-loop-holds Inv-loop μ-loop
-loop-holds c = running-start (c .before .before .before .before .before .before .before .pre)
+loop-holds c = running-start (c .before .before .before .before .before .before .before .pre) (omega arith)
 
-shared-slice-read-kind : tie.Need-shared-slice-read-kind Inv-loop μ-loop
-shared-slice-read-kind c =
-    let i = c .before in
-    running-kind (st (i .before) .pre) (i .before .loop .inv) (i .loop-test .taken)
+block-end-requires : tie.Need-block-end-requires Inv-loop μ-loop
+block-end-requires c κs = search needs
 
-mul-index : tie.Need-mul-index Inv-loop μ-loop
-mul-index c = search needs
-
-shared-slice-read-index : tie.Need-shared-slice-read-index Inv-loop μ-loop
-shared-slice-read-index c = search needs
-
-step-requires : tie.Need-step-requires Inv-loop μ-loop
-step-requires c κs =
-    let i = c .before .before .before .before .before in
-    let l = i .before in
-    (l .loop .inv .ready, running-in (st l .pre) (l .loop .inv) (i .loop-test .taken), running-fits (st l .pre) (l .loop .inv) (i .loop-test .taken))
-
-mul-pivots : tie.Need-mul-pivots Inv-loop μ-loop
-mul-pivots c = search needs
-
-slice-write-pivots : tie.Need-slice-write-pivots Inv-loop μ-loop
-slice-write-pivots c = search needs
-
-mul-shareds : tie.Need-mul-shareds Inv-loop μ-loop
-mul-shareds c = search needs
-
-slice-write-shareds : tie.Need-slice-write-shareds Inv-loop μ-loop
-slice-write-shareds c = search needs
-
-add-j : tie.Need-add-j Inv-loop μ-loop
-add-j c = search needs
+run-block-requires : tie.Need-run-block-requires Inv-loop μ-loop
+run-block-requires c κs =
+    let b = c .before .before .before .before .before in
+    (b .before .before .loop .inv .further .underway, omega (arith, b .block-end .ensures .0), b .block-end .ensures .1)
 
 loop-less : tie.Need-loop-less Inv-loop μ-loop
-loop-less c = search needs
+loop-less c =
+    let b = c .before .before .before .before .before .before .before .before .before .before .before .before .before .before .before .before in
+    omega (arith, b .block-end .ensures .0, b .block-end .ensures .1)
 
 loop-again : tie.Need-loop-again Inv-loop μ-loop
 loop-again c =
-    let d = c .before .before .before .before .before .before .before in
-    let i = body d in
-    let l = i .before in
-    running-step (st l .pre) (l .loop .inv) (i .loop-test .taken) (d .step .ensures) (d .step .kept .0) (d .step .kept .1 .0) (d .step .kept .1 .1 .0)
+    let d = c .before .before .before .before .before .before .before .before .before .before in
+    let b = d .before .before .before .before .before .before in
+    let k = d .run-block .kept in
+    running-block (b .before .before .loop .inv) (b .block-end .ensures .1) (d .run-block .ensures)
+    (record { counts = k .1 .1 .0; words = k .1 .1 .1 .0; summary = k .1 .1 .1 .1 .0; pivots = k .1 .1 .1 .1 .1 .0; shareds = k .1 .1 .1 .1 .1 .1 .0 })
 
 same-length : tie.Need-same-length Inv-loop μ-loop
 same-length c = search needs
@@ -83,7 +55,7 @@ same-length-5 : tie.Need-same-length-5 Inv-loop μ-loop
 same-length-5 c = search needs
 
 returns : tie.Need-returns Inv-loop μ-loop
-returns c = let l = c .before in running-end (st l .pre) (l .loop .inv) (c .loop-test .left)
+returns c = further-whole (running-all (c .before .loop .inv) (c .loop-test .left))
 
 pub run-spec : {M : Type 1} → statement M
 run-spec =
@@ -92,15 +64,8 @@ run-spec =
     Inv-loop
     μ-loop
     loop-holds
-    shared-slice-read-kind
-    mul-index
-    shared-slice-read-index
-    step-requires
-    mul-pivots
-    slice-write-pivots
-    mul-shareds
-    slice-write-shareds
-    add-j
+    block-end-requires
+    run-block-requires
     loop-less
     loop-again
     same-length
