@@ -1,11 +1,12 @@
 -- Wrong programs that no promise allows. Each is refuted at a row of the table: there the promise's answer, or a lent buffer, is a value
 -- that computes, and the wrong program's is another.
 use Prim.Native.Nat.{ℕ}
-use mathlib.Core.Path.{_≡_, sym, ap, _∙_}
-use mathlib.Core.Bool.{false}
+use mathlib.Core.Path.{_≡_, refl, sym, ap, _∙_}
+use mathlib.Core.Bool.{Bool, true, false}
 use mathlib.Core.List.{List, [], _∷_}
 use native.Mathlib.Omega.{arith}
-use lib.ListN.{length, take, getD, replicate}
+use lib.ListN.{length, take, drop, getD, replicate}
+use Rattle.base.specs.Buffers.{over}
 use Rattle.base.specs.declared.Refusal.{Refusal}
 use Rattle.base.specs.declared.Place.{Place}
 use Rattle.base.specs.declared.Stats.{Stats}
@@ -13,10 +14,12 @@ use Rattle.base.specs.declared.SweepAnswer.{SweepAnswer}
 use Rattle.base.specs.declared.ScriptAnswer.{ScriptAnswer}
 use Rattle.base.specs.declared.FinderAnswer.{FinderAnswer}
 use Rattle.rules.specs.Text.{text}
+use Rattle.rules.specs.Lines.{line, refusedLine, said}
 use Rattle.rules.specs.Told.{Told}
 use Rattle.rules.specs.Calls.{SweepLent, MinimizerPromise, IntervalPromise, ScriptLent, ScriptPromise, FinderLent, MinimizerFinderPromise, IntervalFinderPromise, RunPromise}
 use Rattle.rules.specs.Computes.{computes}
 use Rattle.rules.specs.Examples.{scriptA, caseB, caseD, finderOf, jobB2}
+use Rattle.rules.specs.JobEdges.{jobTo, jobWith}
 
 -- how many values an answer tells, and the value at i
 size : Told → ℕ
@@ -128,3 +131,33 @@ pub run-none-always : (r : ℕ) (out out′ : List ℕ) → take 4 out′ ≡ te
 unfolding computes
 run-none-always r out out′ begins p =
     let e : _≡_ {A = ℕ} 110 109 = ap (λ xs. getD xs 0 0) (sym begins ∙ ap (take 4) (p .written)) in omega (arith, e)
+
+-- one whose place begins alike for B2's job and for the same with range end 10 (`mapped 8` and `mapped 0`),
+pub run-one-place : (r s : ℕ) (out a b : List ℕ) → take 8 a ≡ take 8 b → RunPromise false jobB2 r out a → RunPromise false (jobWith 27 10) s out b → ⊥
+unfolding computes
+run-one-place r s out a b alike p q =
+    let e : _≡_ {A = ℕ} 56 48 = ap (λ xs. getD xs 7 0) (sym (ap (take 8) (p .written)) ∙ alike ∙ ap (take 8) (q .written)) in omega (arith, e)
+
+-- one that says none of what is refused: of a job whose 06 was not read, of one that the library refuses, of one after which reading failed,
+none-is-no-refusal : (failed : Bool) (job : List ℕ) (n p r : ℕ) (out out′ : List ℕ) → said failed job ≡ refusedLine n p → take 4 out′ ≡ text "none" → RunPromise failed job r out out′ → ⊥
+unfolding refusedLine line text
+none-is-no-refusal failed job n p r out out′ refused begins promise =
+    let e : _≡_ {A = ℕ} 110 114 = ap (λ xs. getD xs 0 0) (sym begins ∙ ap (take 4) (promise .written ∙ ap (λ lines. over lines out) refused)) in
+    omega (arith, e)
+
+pub run-none-unread : (r : ℕ) (out out′ : List ℕ) → take 4 out′ ≡ text "none" → RunPromise false (jobTo 50 (drop 113 jobB2)) r out out′ → ⊥
+unfolding computes
+run-none-unread r out out′ = none-is-no-refusal false _ 14 50 r out out′ refl
+
+pub run-none-refused : (r : ℕ) (out out′ : List ℕ) → take 4 out′ ≡ text "none" → RunPromise false (jobWith 42 20) r out out′ → ⊥
+unfolding computes
+run-none-refused r out out′ = none-is-no-refusal false _ 4 1 r out out′ refl
+
+pub run-none-failed : (r : ℕ) (out out′ : List ℕ) → take 4 out′ ≡ text "none" → RunPromise true jobB2 r out out′ → ⊥
+unfolding computes
+run-none-failed r out out′ = none-is-no-refusal true _ 12 167 r out out′ refl
+
+-- one that prints `none` and a new line, and no counts, of a contig with no items
+pub run-drops-counts : (out out′ : List ℕ) → RunPromise false (jobTo 50 (0x06 ∷ 0x00 ∷ 0x00 ∷ drop 113 jobB2)) 5 out out′ → ⊥
+unfolding computes
+run-drops-counts out out′ p = let e : _≡_ {A = ℕ} 5 18 = p .count in omega (arith, e)
