@@ -1,4 +1,4 @@
-// Replays the stored vectors through the outward calls, and prints for each file how many records ran and how many failed.
+// Replays the stored vectors through the outward calls and the stored jobs through `run`, and prints for each file how many records ran and how many failed.
 use libc::STDOUT_FILENO;
 use records::file;
 
@@ -10,6 +10,7 @@ fn right(number: u8, record: &[u64]) -> bool {
         2 => replay_sweeps::replay(record, true),
         3 => replay_finders::replay(record, false),
         4 => replay_finders::replay(record, true),
+        5 => replay_jobs::replay(record),
         _ => false,
     }
 }
@@ -71,4 +72,5 @@ fn main() {
     replay(2, b"interval.bin", b"interval");
     replay(3, b"minimizer_finder.bin", b"minimizer_finder");
     replay(4, b"interval_finder.bin", b"interval_finder");
+    replay(5, b"jobs.bin", b"jobs");
 }
