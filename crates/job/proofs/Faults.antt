@@ -81,30 +81,11 @@ unfolding tooMany
 too-many-is mode r u earlier n is = ap (λ (k : ℕ). ltb (r .limit * k) (earlier + n)) is
 
 -- the first of them
-
-module _ (r : FieldRow) (rs : List FieldRow) (before mode earlier tag first n : ℕ) where
-  pub fault-place : misplaced before r ≡ true → 14 ≡ faultBy (r ∷ rs) before mode earlier tag first n
-  unfolding faultBy
-  fault-place e = sym (pick-yes _ _ _ e)
-
-  module _ (placed : misplaced before r ≡ false) where
-    pub fault-length : not (fits mode r n) ≡ true → 15 ≡ faultBy (r ∷ rs) before mode earlier tag first n
-    unfolding faultBy
-    fault-length e = sym (pick-no _ _ _ placed ∙ pick-yes _ _ _ e)
-
-    module _ (whole : not (fits mode r n) ≡ false) where
-      pub fault-value : wrongValue tag first ≡ true → 15 ≡ faultBy (r ∷ rs) before mode earlier tag first n
-      unfolding faultBy
-      fault-value e = sym (pick-no _ _ _ placed ∙ pick-no _ _ _ whole ∙ pick-yes _ _ _ e)
-
-      module _ (right : wrongValue tag first ≡ false) where
-        pub fault-limit : tooMany mode r earlier n ≡ true → 16 ≡ faultBy (r ∷ rs) before mode earlier tag first n
-        unfolding faultBy
-        fault-limit e = sym (pick-no _ _ _ placed ∙ pick-no _ _ _ whole ∙ pick-no _ _ _ right ∙ pick-yes _ _ _ e)
-
-        pub fault-none : tooMany mode r earlier n ≡ false → 0 ≡ faultBy (r ∷ rs) before mode earlier tag first n
-        unfolding faultBy
-        fault-none e = sym (pick-no _ _ _ placed ∙ pick-no _ _ _ whole ∙ pick-no _ _ _ right ∙ pick-no _ _ _ e)
+pub fault-is : (r : FieldRow) (rs : List FieldRow) (before mode earlier tag first n : ℕ) {place length value limit : Bool} → place ≡ misplaced before r → length ≡ not (fits mode r n)
+    → value ≡ wrongValue tag first → limit ≡ tooMany mode r earlier n
+    → pick place 14 (pick length 15 (pick value 15 (pick limit 16 0))) ≡ faultBy (r ∷ rs) before mode earlier tag first n
+unfolding faultBy
+fault-is r rs before mode earlier tag first n place length value limit = rw (place, length, value, limit)
 
 -- nothing is wrong: the table has a row of the tag, and the field passed each test
 

@@ -3,6 +3,8 @@ ghost use mathlib.Core.Path.{_≡_};
 ghost use mathlib.Core.Bool.{not};
 ghost use Prim.Native.Nat.{_+_, _^_, _<_, _≤_};
 ghost use lib.ListN.{length, getD, take, drop};
+ghost use Rattle.base.specs.Pick.{pick};
+ghost use Rattle.base.specs.Verdicts.{refuse};
 ghost use Rattle.rules.specs.Limits.{jobLimit};
 ghost use Rattle.rules.specs.Job.{unitOf, fits, wrongValue, tooMany, faultBy};
 ghost use Rattle.rules.specs.Job as rules;
@@ -119,24 +121,30 @@ fn too_many(row: Row, mode: u8, earlier: usize, n: usize) -> bool
     limit * unit < earlier + n
 }
 
+// The number, where the test says so; else the next.
+fn number_if(test: bool, number: u8, next: u8) -> u8
+    ensures { λ r. ⌜ r ≡ pick test number next ⌝ }
+{
+    if test {
+        return number;
+    }
+    next
+}
+
 // What is wrong with a whole field of this row, 0 if nothing; `first` is the first of its n bytes.
 fn fault(row: Row, seen: Seen, earlier: usize, tag: u8, first: u8, n: usize) -> u8
     requires { ⌜ earlier + n < 2 ^ 32 ⌝ }
     ensures { λ r. ⌜ r ≡ faultBy (rowsOf (Found.Known row)) (seen .before) (seen .mode) earlier tag first n ⌝ }
 {
-    if misplaced(row, seen.before) {
-        return 14;
-    }
-    if misfits(row, seen.mode, n) {
-        return 15;
-    }
-    if wrong_value(tag, first) {
-        return 15;
-    }
-    if too_many(row, seen.mode, earlier, n) {
-        return 16;
-    }
-    0
+    let place = misplaced(row, seen.before);
+    let length = misfits(row, seen.mode, n);
+    let value = wrong_value(tag, first);
+    let limit = too_many(row, seen.mode, earlier, n);
+    number_if(
+        place,
+        14,
+        number_if(length, 15, number_if(value, 15, number_if(limit, 16, 0))),
+    )
 }
 
 // How many bytes the earlier fields with a tag have: tags ascend, so only those with the last tag count.
@@ -214,7 +222,7 @@ fn field(job: &[u8], at: usize, seen: Seen) -> Step
 
 fn refused(number: u8, place: usize) -> Verdict
     requires { ⌜ place < 2 ^ 32 ⌝ }
-    ensures { λ r. ⌜ r ≡ verdictOf (rules.refusedAt number place) ⌝ }
+    ensures { λ r. ⌜ r ≡ refuse number place ⌝ }
 {
     Verdict::No(Refusal {
         number,

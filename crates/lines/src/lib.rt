@@ -27,11 +27,11 @@ fn digits(out: &mut [u8], at: usize, count: usize, n: u64, base: u64) -> usize
     requires { ⌜ (at + count ≤ length (now out)) × (1 < base) × (base ≤ 16) ⌝ }
     ensures { λ r. ⌜ Written at (radix base count n) (now (out .entry)) r (now (out .exit)) ⌝ }
 {
-    let mut left = count;
+    let mut done: usize = 0;
     let mut m = n;
-    while 0 < left {
-        left -= 1;
-        out[at + left] = digit(m % base);
+    while done < count {
+        done += 1;
+        out[at + (count - done)] = digit(m % base);
         m /= base;
     }
     at + count
@@ -157,8 +157,8 @@ fn none_lines(out: &mut [u8], stats: Stats) -> usize
     requires { ⌜ 75 ≤ length (now out) ⌝ }
     ensures { λ r. ⌜ Written 0 (line (text "none") [] ++ countsLine stats) (now (out .entry)) r (now (out .exit)) ⌝ }
 {
-    let told = word(out, 0, b"none\n");
-    counts_line(out, told, stats)
+    let none = word(out, 0, b"none\n");
+    counts_line(out, none, stats)
 }
 
 // The lines of an answer; the bits are those of the job's estimates, as they stood.

@@ -1,11 +1,25 @@
 -- `stands_between` decides the three tests in turn.
+use Prim.Native.Nat.{ℕ, _<_}
+use mathlib.Core.Path.{_≡_}
+use mathlib.Core.Bool.{true}
 use borrow.Author.Needs.{needs}
 use borrow.Author.Tests.{lt-ltb, le-ltb}
+use lib.Dec.{ltb}
+use Rattle.rules.specs.Job.{FieldRow}
+use Rattle.job.specs.Table.{ruleOf, between}
 use Rattle.job.proofs.table.stands_between.Statement.{statement}
 use Rattle.job.proofs.table.stands_between.Tie as tie
 
+-- a row that must stand, behind the first tag, is between them if it is before the second
+by-second : (before tag : ℕ) (x : FieldRow) → x .needed ≡ true → before < x .tag → ltb (x .tag) tag ≡ between before tag x
+by-second before tag x e h = rw (e, lt-ltb before (x .tag) h)
+
 returns : tie.Need-returns
-returns c = simp (c .before .before .before .if1 .taken, lt-ltb _ _ (c .before .if2 .taken))
+returns c =
+    let i = c .before in
+    let j = i .before .before in
+    let a = j .before .args in
+    by-second (a .before) (a .tag) (ruleOf (a .row)) (j .if1 .taken) (i .if2 .taken)
 
 returns-2 : tie.Need-returns-2
 returns-2 c = simp (c .before .before .if1 .taken, le-ltb _ _ (c .if2 .left))
