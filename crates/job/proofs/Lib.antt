@@ -14,7 +14,7 @@ pub mod Steps
 pub mod Walking
 -- UnitLists: the units of n bytes in a list
 pub mod UnitLists
--- Numbers: bytes as numbers and floats
+-- Numbers: bytes as numbers
 pub mod Numbers
 -- Units: the units of a tag from a place of the job on
 pub mod Units

@@ -1,13 +1,8 @@
--- Four and eight bytes as a number, low byte first; and the bit patterns that are no number. Assumes nothing.
-use Prim.Native.Nat.{ℕ, _+_, _-_, _*_, _%_, _<_, _≤_}
-use mathlib.Core.Path.{_≡_, refl, sym, ap, _∙_, subst}
-use mathlib.Core.Bool.{Bool, true, false, not}
+-- Four and eight bytes as a number, low byte first. Assumes nothing.
+use Prim.Native.Nat.{ℕ, _+_, _-_, _*_, _≤_}
+use mathlib.Core.Path.{_≡_, ap, _∙_}
 use mathlib.Core.List.{List, [], _∷_}
 use native.Mathlib.Omega.{arith}
-use borrow.Author.Tests.{lt-ltb, le-ltb}
-use lib.Dec.{T}
-use lib.Ieee.{Float, nan, inf, fin, binary64, ofBits, div, isNan, nanBits}
-use lib.Ieee.Bits.{nanBits-is, nanBits-above}
 use lib.ListN.{length, getD, take, drop, length-drop}
 use lib.Seq.{getD-drop, take-take, drop-drop}
 use Rattle.rules.specs.Job.{number, numberAt}
@@ -47,21 +42,3 @@ module _ (job : List ℕ) (at : ℕ) where
   number-in o k n h =
       ap (λ (l : List ℕ). number (take k l)) (drop-take o n (drop at job) (omega arith)) ∙ ap number (take-take k (n - o) (drop o (drop at job)) (omega arith)) ∙
       ap (λ (l : List ℕ). number (take k l)) (drop-drop o at job)
-
--- 0.0 / 0.0
-pub nan-made : div binary64 (ofBits binary64 0) (ofBits binary64 0) ≡ nan
-unfolding div ofBits
-nan-made = refl
-
-only-nan : (x : Float) → isNan x ≡ true → x ≡ nan
-unfolding isNan
-only-nan nan e = refl
-only-nan (inf s) e = absurd (subst T (sym e) tt)
-only-nan (fin s m k) e = absurd (subst T (sym e) tt)
-
--- a pattern whose lower 63 bits are above the infinity's is a NaN's
-pub nan-above : (n : ℕ) → 0x7ff0_0000_0000_0000 < n % 0x8000_0000_0000_0000 → ofBits binary64 n ≡ nan
-nan-above n h = only-nan _ (sym (nanBits-is binary64 n) ∙ nanBits-above binary64 n ∙ lt-ltb _ _ h)
-
-pub not-nan : (n : ℕ) → n % 0x8000_0000_0000_0000 ≤ 0x7ff0_0000_0000_0000 → T (not (nanBits binary64 n))
-not-nan n h = subst (λ (b : Bool). T (not b)) (sym (nanBits-above binary64 n ∙ le-ltb _ _ h)) tt

@@ -75,16 +75,6 @@ fn le64(job: &[u8], at: usize) -> u64
     four(job, at) + 4294967296 * four(job, at + 4)
 }
 
-// The float of a bit pattern; every pattern of a NaN is the one NaN.
-fn float_of(bits: u64) -> f64
-    ensures { λ r. ⌜ r ≡ ofBits binary64 bits ⌝ }
-{
-    if 0x7ff0_0000_0000_0000 < bits % 0x8000_0000_0000_0000 {
-        return 0.0 / 0.0;
-    }
-    f64::from_bits(bits)
-}
-
 // Whether a field of n bytes has the tag, and a unit.
 fn holds_unit(found: u8, tag: u8, n: usize, size: usize) -> bool
     ensures { λ r. ⌜ r ≡ (eqb found tag && leb size n) ⌝ }
@@ -190,7 +180,7 @@ fn fill_floats(job: &[u8], tag: u8, size: usize, offset: usize, out: &mut [f64])
         let Piece::At(p, next) = unit else {
             return n;
         };
-        out[n] = float_of(le64(job, p + offset));
+        out[n] = float_bits::float_of(le64(job, p + offset));
         n += 1;
         from = next;
     }
@@ -245,7 +235,7 @@ fn minimum_of(job: &[u8]) -> f64
     let Piece::At(p, _) = unit else {
         return 0.0;
     };
-    float_of(le64(job, p))
+    float_bits::float_of(le64(job, p))
 }
 
 // 06: hash and position, or hash, start and end; how many.

@@ -1,17 +1,5 @@
 // Floats by their bits. The language keeps one NaN, so of a NaN only that it is one can be held to a record.
-ghost use mathlib.Core.Path.{_≡_};
-ghost use lib.Ieee.{binary64, ofBits};
 use crate::words;
-
-// The float of a bit pattern, a NaN's too.
-pub fn float_of(bits: u64) -> f64
-    ensures { λ r. ⌜ r ≡ ofBits binary64 bits ⌝ }
-{
-    if 0x7ff0_0000_0000_0000 < bits % 0x8000_0000_0000_0000 {
-        return 0.0 / 0.0;
-    }
-    f64::from_bits(bits)
-}
 
 // The list that word i counts, as `words::narrow` finds it.
 pub fn floats(words: &[u64], at: usize, from: usize, i: usize, out: &mut [f64]) -> bool {
@@ -22,7 +10,7 @@ pub fn floats(words: &[u64], at: usize, from: usize, i: usize, out: &mut [f64]) 
         if out.len() <= k {
             return false;
         }
-        out[k] = float_of(words::entry(words, start, k));
+        out[k] = float_bits::float_of(words::entry(words, start, k));
         k += 1;
     }
     true

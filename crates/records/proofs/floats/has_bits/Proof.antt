@@ -1,6 +1,6 @@
 -- `has_bits` asks for the bits only of a float that equals itself, and so is no NaN.
 use borrow.Author.Needs.{needs}
-use Rattle.records.proofs.Nans.{equals-itself}
+use Rattle.float_bits.proofs.Nans.{equals-itself}
 use Rattle.records.proofs.floats.has_bits.Statement.{statement}
 use Rattle.records.proofs.floats.has_bits.Tie as tie
 

@@ -1,8 +1,8 @@
 -- `float_of` answers the one NaN for every NaN's pattern, and takes the bits of any other as they stand.
 use mathlib.Core.Path.{refl, sym, _∙_}
-use Rattle.records.proofs.Nans.{made, above, below}
-use Rattle.records.proofs.floats.float_of.Statement.{statement}
-use Rattle.records.proofs.floats.float_of.Tie as tie
+use Rattle.float_bits.proofs.Nans.{made, above, below}
+use Rattle.float_bits.proofs.float_of.Statement.{statement}
+use Rattle.float_bits.proofs.float_of.Tie as tie
 
 returns : tie.Need-returns
 returns c = made ∙ sym (above _ (c .if1 .taken))
