@@ -102,11 +102,12 @@ module _ {is ks cs ws ss ps ts : List ℕ} {at : Slide} {j : ℕ} (u : Underway 
   pub next-kind : j < length ks
   next-kind = omega (arith, u .steps .parallel)
 
-  pub next-in : getD is j 0 < length cs
-  next-in = all-at (λ i. i < length cs) is (u .steps .within) j l
+  -- any step is within the coordinates, and any count has room
+  pub next-in : (k : ℕ) → k < length is → getD is k 0 < length cs
+  next-in k h = all-at (λ i. i < length cs) is (u .steps .within) k h
 
-  pub next-fits : getD cs (getD is j 0) 0 + 2 < 2 ^ 32
-  next-fits = omega (arith, u .few (getD is j 0), counts-at cs (getD is j 0), u .steps .few)
+  pub next-fits : (i : ℕ) → getD cs i 0 + 2 < 2 ^ 32
+  next-fits i = omega (arith, u .few i, counts-at cs i, u .steps .few)
 
   module _ {cs′ ws′ ss′ : List ℕ} {at′ : Slide} (m : Stepped cs ws ss at (getD ks j 0) (getD is j 0) cs′ ws′ ss′ at′) where
     next-underway : length cs′ ≡ length cs → Underway is ks cs′ ws′ ss′ (set ps j (at′ .pivot .0)) (set ts j (at′ .shared)) at′ (j + 1)
@@ -115,10 +116,10 @@ module _ {is ks cs ws ss ps ts : List ℕ} {at : Slide} {j : ℕ} (u : Underway 
         let kind = getD ks j 0 in
         let i = getD is j 0 in
         let counts : countsOf cs′ ≡ stepped kind i (countsOf cs) =
-        ap (λ (x : moves.Slide). x .counts) (m .slide) ∙ moved-counts (flagsOf cs) (slideOf cs at) (u .ready .slid) i (omega (arith, next-in, flags-length cs)) kind in
+        ap (λ (x : moves.Slide). x .counts) (m .slide) ∙ moved-counts (flagsOf cs) (slideOf cs at) (u .ready .slid) i (omega (arith, next-in j l, flags-length cs)) kind in
         record {
           ready = m .ready;
-          few = λ k. rw counts (counted kind i (countsOf cs) j k (omega (arith, next-in, counts-length cs)) (u .few));
+          few = λ k. rw counts (counted kind i (countsOf cs) j k (omega (arith, next-in j l, counts-length cs)) (u .few));
           steps = subst (λ (n : ℕ). Steps n is ks) (sym e) (u .steps);
           outputs = record {
             pivots = omega (arith, u .outputs .pivots, length-set ps j (at′ .pivot .0));

@@ -55,7 +55,7 @@ same-length-5 : tie.Need-same-length-5 Inv-loop μ-loop
 same-length-5 c = search needs
 
 returns : tie.Need-returns Inv-loop μ-loop
-returns c = further-whole (running-all (c .before .loop .inv) (c .loop-test .left))
+returns c = further-whole (running-all (c .before .loop .inv) (omega (arith, c .loop-test .left)))
 
 pub run-spec : {M : Type 1} → statement M
 run-spec =

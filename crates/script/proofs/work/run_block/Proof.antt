@@ -34,19 +34,19 @@ loop-holds c = let p = c .before .before .before .before .before .before .before
 shared-slice-read-kind : tie.Need-shared-slice-read-kind Inv-loop μ-loop
 shared-slice-read-kind c =
     let i = c .before in
-    next-kind (i .before .loop .inv .further .underway) (in-run i)
+    omega (arith, next-kind (i .before .loop .inv .further .underway) (in-run i))
 
 mul-index : tie.Need-mul-index Inv-loop μ-loop
 mul-index c = search needs
 
 shared-slice-read-index : tie.Need-shared-slice-read-index Inv-loop μ-loop
-shared-slice-read-index c = in-run (c .before .before)
+shared-slice-read-index c = omega (arith, in-run (c .before .before))
 
 step-requires : tie.Need-step-requires Inv-loop μ-loop
 step-requires c κs =
     let i = c .before .before .before .before .before in
     let u = i .before .loop .inv .further .underway in
-    (u .ready, next-in u (in-run i), next-fits u (in-run i))
+    (u .ready, next-in u (in-run i) _ (omega (arith, in-run i)), next-fits u (in-run i) _)
 
 mul-pivots : tie.Need-mul-pivots Inv-loop μ-loop
 mul-pivots c = search needs
