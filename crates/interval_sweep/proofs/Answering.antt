@@ -1,19 +1,21 @@
 -- From what the sweep found to the rules' answer: the early nones in their order, and that a best can be placed: its score is no more than the query's hashes, and its
 -- positions lie within the range. Assumes nothing.
 use mathlib.Core.Path.{_≡_, refl, sym, ap, subst, _∙_}
-use mathlib.Core.Logic.{⊎-elim}
+use mathlib.Core.Logic.{⊎-elim, _≢_}
 use mathlib.Core.Bool.{Bool, true, false, _&&_, and-eq-true-iff}
 use mathlib.Core.List.{List, [], _∷_, _++_, map}
 use Prim.Native.Nat.{ℕ, zero, suc, _+_, _-_, _*_, _≤_, _<_, _^_}
 use native.Mathlib.Omega.{arith}
 use lib.Dec.{ltb, leb, eqb}
 use lib.ListN.{length}
-use borrow.Author.Tests.{lt-ltb, le-ltb, eq-eqb, ne-eqb, leb-true, eqb-false}
+use borrow.Author.Tests.{lt-ltb, le-ltb, eq-eqb, ne-eqb, leb-true}
 use Rattle.base.specs.Pick.{pick}
 use Rattle.base.specs.Lists.{All}
 use Rattle.base.specs.declared.Best.{Best}
 use Rattle.base.specs.declared.SweepAnswer.{SweepAnswer}
+use Rattle.base.proofs.Checks.{eq-stop, eq-skip}
 use Rattle.base.proofs.Lists.{all-append}
+use Rattle.base.proofs.Order.{eq-or-ne}
 use Rattle.base.proofs.Sort.{all-sort}
 use Rattle.rules.specs.Limits.{queryLimit, itemLimit}
 use Rattle.rules.specs.Lists.{member, filter}
@@ -31,7 +33,7 @@ use Rattle.rules.proofs.Interval.{taken-members, coords-fit}
 use Rattle.sweep.specs.Work.{Fits}
 use Rattle.interval_work.specs.declared.Swept.{Swept}
 use Rattle.interval_work.specs.Work.{Found}
-use Rattle.interval_sweep.specs.Answer.{none, placed, Placeable}
+use Rattle.interval_sweep.specs.Answer.{none, statsOf, placed, Placeable}
 
 -- ---- positions within the range
 
@@ -108,16 +110,15 @@ module _ (s : Sweep) where
 
         -- what was found is placed
         pub late-placed : (r : Swept) → Found s r → placed (s .settings .length) (length (s .query)) (s .identities) (s .uppers) (s .minimum) (s .range) r ≡ intervalAnswer s
-        unfolding settledIn intervalStats pick
+        unfolding settledIn intervalStats
         late-placed r f =
-            ⊎-elim (λ (e : eqb (length (taken s)) 0 ≡ true). rw (f .items-are, e) (sym (late ∙ rw e)))
-            (λ (e : eqb (length (taken s)) 0 ≡ false).
-            let some : 0 < length (taken s) = positive e in
-            let at : eqb (r .items) 0 ≡ false = ap (λ (n : ℕ). eqb n 0) (f .items-are) ∙ e in
-            rw (at, f .items-are, f .coords-are some, f .best-is some) (sym (late ∙ rw e))) (cases (eqb (length (taken s)) 0))
+            sym
+            (⊎-elim (λ (e : length (taken s) ≡ 0). eq-stop (r .items) 0 none _ _ (f .items-are ∙ e) (late ∙ sym (eq-stop (length (taken s)) 0 none _ _ e refl)))
+            (λ (n : length (taken s) ≢ 0).
+            eq-skip (r .items) 0 none _ _ (λ e. n (sym (f .items-are) ∙ e)) (late ∙ sym (eq-skip (length (taken s)) 0 none _ _ n refl) ∙ sym (settles (omega (arith, n))))) (eq-or-ne (length (taken s)) 0))
           where
-            positive : eqb (length (taken s)) 0 ≡ false → 0 < length (taken s)
-            positive e = let n : length (taken s) ≡ 0 → ⊥ = eqb-false (length (taken s)) 0 e in omega (arith, n)
+            settles : 0 < length (taken s) → settled (s .settings .length) (length (s .query)) (s .identities) (s .uppers) (s .minimum) (statsOf (s .range) r) (r .best) ≡ settledIn s (intervalStats s) (best (spans s))
+            settles some = rw (f .items-are, f .coords-are some, f .best-is some)
 
         pub late-fits : (r : Swept) → Found s r → 1 ≤ s .settings .length → length (s .query) ≤ queryLimit → length (s .hashes) ≤ itemLimit → length (s .query) + 1 ≤ length (s .identities) → length (s .identities) ≡ length (s .uppers) → s .range .end < 2 ^ 32
             → Placeable (s .settings .length) (length (s .query)) (s .identities) (s .uppers) (s .range) r
