@@ -8,17 +8,17 @@ use Prim.Native.Nat.{ℕ, _+_, _≤_, _<_}
 use native.Mathlib.Numerals.{add-one}
 use native.Mathlib.Omega.{arith}
 use lib.Dec.{ltb}
-use lib.ListN.{length, getD, drop, drop-of-length-le}
-use lib.Seq.{drop-cons}
+use lib.ListN.{length, getD, set, drop, drop-of-length-le}
+use lib.Seq.{drop-cons, getD-set-same, getD-set-other}
 use borrow.Author.Tests.{lt-ltb, le-ltb, le-leb, lt-leb}
 use Rattle.base.specs.Pick.{pick}
-use Rattle.base.specs.Lists.{All, StrictAsc, hit}
+use Rattle.base.specs.Lists.{All, StrictAsc}
 use Rattle.base.specs.OrderChecks.{orderOf}
 use Rattle.base.specs.declared.Refusal.{Refusal}
 use Rattle.base.specs.declared.Verdict.{Verdict}
 use Rattle.base.specs.declared.Verdict.the-variants.{Fine, No}
-use Rattle.base.proofs.Lists.{all-index, asc-at, strict-at, strict-asc}
-use Rattle.base.proofs.Order.{lt-or-ge}
+use Rattle.base.proofs.Lists.{all-index, asc-at, strict-asc}
+use Rattle.base.proofs.Order.{eq-or-ne}
 use Rattle.base.proofs.OrderChecks.{order-strict}
 use Rattle.base.proofs.Verdicts.{or-stop, or-skip, or-fine, lt-fine, eq-fine, same-fine}
 use Rattle.rules.specs.Lists.{member}
@@ -31,8 +31,8 @@ use Rattle.rules.specs.Accepted.{ScriptFits}
 use Rattle.rules.proofs.Accepted.{script-hash, script-step, script-fits}
 use Rattle.rules.proofs.Score.{cases, all-member, getD-member, at-number, number-fits}
 use Rattle.script.specs.Given.{Sized}
-use Rattle.script.specs.Work.{Accepted}
-use Rattle.slide_mapper.proofs.Hits.{by-hit}
+use Rattle.script.specs.Work.{Placed, Accepted}
+use Rattle.script.proofs.Reaching.{number-up}
 
 -- A walk, at i: f k is how many pass from k on before the first that fails.
 pub record Passed (f : ℕ → ℕ) (i : ℕ) : Type 0 where
@@ -98,52 +98,53 @@ module _ (n : ℕ) (indexes kinds : List ℕ) (i : ℕ) where
   unfolding firstBadStep
   bad-end l = rw (drop-of-length-le indexes l)
 
--- The walk over both lists, at hash q and coordinate i: the hashes before q are coordinates, and q is none of those passed, since both lists ascend.
-pub record Walking (query coords : List ℕ) (q i : ℕ) : Type 0 where
-  pub few : q ≤ length query
-  pub passed : Passed (missingFrom coords query) q
-  pub not-yet : (j : ℕ) → j < i → q < length query → getD coords j 0 ≢ getD query q 0
+-- The walk over both lists, at hash i: the hashes before it are coordinates, their places stand in the list, and no hash to come lies before the last of them.
+pub record Finding (query coords places : List ℕ) (at i : ℕ) : Type 0 where
+  pub few : i ≤ length query
+  pub passed : Passed (missingFrom coords query) i
+  pub placed : Placed query coords places i
+  pub behind : (a : ℕ) → i ≤ a → a < length query → at ≤ numberOf coords (getD query a 0)
 
-pub walking-start : (query coords : List ℕ) → Walking query coords 0 0
-walking-start query coords = record { few = omega arith; passed = passed-none; not-yet = λ j l m. absurd (omega arith) }
+pub finding-start : (query coords places : List ℕ) → Finding query coords places 0 0
+finding-start query coords places = record {
+  few = omega arith;
+  passed = passed-none;
+  placed = record { at = λ i l. absurd (omega arith) };
+  behind = λ a l m. omega arith;
+}
 
-module _ {query coords : List ℕ} {q i : ℕ} (w : Walking query coords q i) where
-  module _ (query-asc : StrictAsc query) (coords-asc : StrictAsc coords) (l : i < length coords) (m : q < length query) where
-    walking-hit : getD coords i 0 ≡ getD query q 0 → Walking query coords (q + 1) (i + 1)
-    walking-hit e = record {
+module _ {query coords places : List ℕ} {at i : ℕ} (w : Finding query coords places at i) where
+  module _ (query-asc : StrictAsc query) (coords-asc : StrictAsc coords) (l : i < length query) (n : ℕ) (e : n ≡ numberOf coords (getD query i 0)) where
+    pub finding-more : n < length coords → getD coords n 0 ≡ getD query i 0 → i < length places → Finding query coords (set places i n) n (i + 1)
+    finding-more m f k = record {
       few = omega arith;
-      passed = passed-more (w .passed) (missing-next coords query q m (subst (λ (x : ℕ). member x coords ≡ true) e (getD-member coords i l)));
-      not-yet = λ j k n f. omega (arith, f, e, asc-at coords (strict-asc coords coords-asc) j i (omega arith) l, strict-at query query-asc q (q + 1) (omega arith) n);
+      passed = passed-more (w .passed) (missing-next coords query i l (subst (λ (x : ℕ). member x coords ≡ true) f (getD-member coords n m)));
+      placed = record {
+        at = λ j b.
+            ⊎-elim
+            (λ (x : j ≡ i). subst (λ (y : ℕ). getD (set places i n) y 0 ≡ numberOf coords (getD query y 0)) (sym x) (getD-set-same places i n 0 k ∙ e))
+            (λ (x : j ≢ i). getD-set-other places i j n 0 x ∙ w .placed .at j (omega arith)) (eq-or-ne j i);
+      };
+      behind = λ a b c. omega (arith, e, number-up coords (getD query i 0) (getD query a 0) (asc-at query (strict-asc query query-asc) i a (omega arith) c));
     }
 
-    walking-miss : getD coords i 0 ≢ getD query q 0 → Walking query coords (q + 0) (i + 1)
-    walking-miss n =
-        subst (λ (k : ℕ). Walking query coords k (i + 1)) (let e : q ≡ q + 0 = omega arith in e)
-        (record {
-          few = w .few;
-          passed = w .passed;
-          not-yet = λ j k o.
-              ⊎-elim (λ (b : j < i). w .not-yet j b o)
-              (λ (b : i ≤ j). subst (λ (x : ℕ). getD coords x 0 ≢ getD query q 0) (let e : i ≡ j = omega arith in e) n) (lt-or-ge j i);
-        })
+    missing : (member (getD query i 0) coords ≡ true → ⊥) → i ≡ firstMissing coords query
+    missing n = passed-stop (w .passed) (missing-here coords query i l (⊎-elim (λ (t : member (getD query i 0) coords ≡ true). absurd (n t)) (λ t. t) (cases (member (getD query i 0) coords))))
 
-    pub walking-step : (h : ℕ) → h ≡ hit (getD coords i 0) (getD query q 0) → Walking query coords (q + h) (i + 1)
-    walking-step h e =
-        subst (λ (k : ℕ). Walking query coords (q + k) (i + 1)) (sym e)
-        (by-hit (λ (k : ℕ). Walking query coords (q + k) (i + 1)) (getD coords i 0) (getD query q 0) walking-hit walking-miss)
+    pub finding-past : length coords ≤ n → i ≡ firstMissing coords query
+    finding-past b = missing (λ t. omega (arith, e, number-fits coords coords-asc (getD query i 0) t))
 
-  pub walking-full : length query ≤ q → q ≡ firstMissing coords query
-  walking-full l = passed-stop (w .passed) (missing-end coords query q l)
+    pub finding-other : (getD coords n 0 ≡ getD query i 0 → ⊥) → i ≡ firstMissing coords query
+    finding-other b = missing (λ t. b (ap (λ (k : ℕ). getD coords k 0) e ∙ at-number coords coords-asc (getD query i 0) t))
 
-  pub walking-end : StrictAsc coords → length coords ≤ i → q ≡ firstMissing coords query
-  walking-end asc l =
-      ⊎-elim
-      (λ (m : q < length query).
-      let h = getD query q 0 in
-      passed-stop (w .passed)
-      (missing-here coords query q m
-      (⊎-elim (λ (t : member h coords ≡ true). absurd (w .not-yet (numberOf coords h) (omega (arith, number-fits coords asc h t)) m (at-number coords asc h t))) (λ t. t) (cases (member h coords)))))
-      walking-full (lt-or-ge q (length query))
+  pub finding-end : length query ≤ i → i ≡ firstMissing coords query
+  finding-end l = passed-stop (w .passed) (missing-end coords query i l)
+
+pub placed-to : {query coords places : List ℕ} {m n : ℕ} → m ≡ n → Placed query coords places m → Placed query coords places n
+placed-to {query} {coords} {places} e p = subst (λ (k : ℕ). Placed query coords places k) e p
+
+pub no-fine : (r : Refusal) → No r ≡ Fine → ⊥
+no-fine r e = absurd (let z : _≡_ {A = ℕ} 0 1 = cc in omega arith)
 
 -- The verdict is the first refusal in number order.
 abbrev pub sizes : Script → Verdict
@@ -215,6 +216,12 @@ module _ (s : Script) (b : ScriptLent) (fine : scriptVerdict s (scriptRoomOf b) 
   hashes-in =
       all-member (λ h. member h (s .coords) ≡ true) (s .query)
       (all-index (λ h. member h (s .coords) ≡ true) (s .query) (script-hash (s .query) (s .coords) (s .indexes) (s .kinds) (parts .2)))
+
+  pub fine-few : length (s .query) ≤ 4096
+  fine-few = omega (arith, sizes-fine s (parts .0) .few-hashes)
+
+  pub fine-placed : {places : List ℕ} → Placed (s .query) (s .coords) places (firstMissing (s .coords) (s .query)) → Placed (s .query) (s .coords) places (length (s .query))
+  fine-placed p = record { at = λ i l. p .at i (omega (arith, lt-fine (firstMissing (s .coords) (s .query)) (length (s .query)) _ _ (parts .2) .0)) }
 
   steps-in : All (λ i. i < length (s .coords)) (s .indexes)
   steps-in = all-index (λ i. i < length (s .coords)) (s .indexes) (λ j l. script-step (s .query) (s .coords) (s .indexes) (s .kinds) (parts .2) j l .0)

@@ -1,3 +1,4 @@
+pub mod Reaching
 pub mod Checking
 pub mod Marks
 pub mod Run

@@ -1,19 +1,20 @@
--- The query marked in clear count words, by one walk over both lists, and the state before the first step: its flags are the query's, no count stands,
+-- The query marked in clear count words, a hash at a time, and the state before the first step: its flags are the query's, no count stands,
 -- and its pivot is the one that the rules begin with, since both are the union's k-th smallest. Assumes nothing.
 use mathlib.Core.Path.{_≡_, refl, sym, ap, _∙_, subst}
 use mathlib.Core.Logic.{⊎-elim, _≢_}
-use mathlib.Core.Bool.{Bool, true, false}
-use mathlib.Core.List.{List, [], _∷_, map}
+use mathlib.Core.Bool.{Bool, true, false, or-true, or-false}
+use mathlib.Core.List.{List, [], _∷_, _++_, map}
 use Prim.Native.Nat.{ℕ, zero, suc, _+_, _/_, _%_, _^_, _≤_, _<_}
 use native.Mathlib.Nat.{not-suc-le-zero, le-of-suc-le-suc, zero-div}
+use native.Mathlib.Numerals.{add-one}
 use native.Mathlib.Omega.{arith}
 use lib.Dec.{eqb}
-use lib.ListN.{length, getD, set, replicate, length-set, length-map, length-replicate}
-use lib.Seq.{getD-set-same, getD-set-other, ext-getD}
+use lib.ListN.{length, getD, set, take, replicate, length-set, length-map, length-replicate}
+use lib.Seq.{getD-set-same, getD-set-other, ext-getD, take-suc, take-all}
+use borrow.Author.Tests.{eq-eqb, ne-eqb}
 use Rattle.base.specs.Pick.{pick}
-use Rattle.base.specs.Lists.{hit}
-use Rattle.base.proofs.Lists.{all-index, asc-at, strict-at, strict-asc}
-use Rattle.base.proofs.Order.{lt-or-ge, eq-or-ne}
+use Rattle.base.specs.Lists.{StrictAsc}
+use Rattle.base.proofs.Order.{eq-or-ne}
 use Rattle.rules.specs.Lists.{member}
 use Rattle.rules.specs.Score.{numberOf}
 use Rattle.rules.specs.Checks.{ceil64}
@@ -21,7 +22,7 @@ use Rattle.rules.specs.Script.{noCounts}
 use Rattle.rules.specs.Moves.{marks, begin}
 use Rattle.rules.specs.Moves as moves
 use Rattle.rules.specs.Ranks.{either, both, mark, has, size, PivotAt}
-use Rattle.rules.proofs.Score.{cases, all-member, getD-member, at-number, number-fits}
+use Rattle.rules.proofs.Score.{member-append, getD-member, at-number, number-fits, number-at}
 use Rattle.rules.proofs.Slide.{size-query}
 use Rattle.rules.proofs.Ranks.{pivot-only}
 use Rattle.rules.proofs.Script.{begin-slid}
@@ -31,7 +32,6 @@ use Rattle.slide_mapper.specs.declared.Slide.{Slide}
 use Rattle.slide_mapper.specs.State.{flagsOf, countsOf, slideOf, Blank, Ready}
 use Rattle.slide_mapper.proofs.State.{counts-at}
 use Rattle.script.specs.Work.{Sound, Clear, marked, Begun}
-use Rattle.slide_mapper.proofs.Hits.{by-hit}
 
 pub zeros-at : (n i : ℕ) → getD {A = ℕ} (replicate n 0) i 0 ≡ 0
 zeros-at zero i = refl
@@ -42,10 +42,6 @@ map-at : (f : ℕ → ℕ) (xs : List ℕ) (i : ℕ) → i < length xs → getD 
 map-at f [] i l = absurd (not-suc-le-zero l)
 map-at f (x ∷ xs) zero l = refl
 map-at f (x ∷ xs) (suc i) l = map-at f xs i (le-of-suc-le-suc l)
-
-no-member : (x : ℕ) (xs : List ℕ) → ((a : ℕ) → a < length xs → getD xs a 0 ≢ x) → member x xs ≡ false
-no-member x xs n =
-    ⊎-elim (λ (t : member x xs ≡ true). absurd (all-member (λ y. y ≢ x) xs (all-index (λ y. y ≢ x) xs n) x t refl)) (λ t. t) (cases (member x xs))
 
 -- ---- how marked count words read
 
@@ -79,116 +75,82 @@ marked-low query coords i =
     let e : getD (countsOf (marked query coords)) i 0 ≡ 0 = ap (λ (l : List ℕ). getD l i 0) (marked-counts query coords) ∙ zeros-at (length coords) i in
     omega (arith, e, counts-at (marked query coords) i)
 
--- a count word is 1 where its hash is in the query, and 0 where no hash of the query is its
-module _ (query coords : List ℕ) (j : ℕ) (l : j < length coords) where
-  marked-in : (a : ℕ) → a < length query → getD coords j 0 ≡ getD query a 0 → getD (marked query coords) j 0 ≡ 1
+marked-none : (coords : List ℕ) → replicate (length coords) 0 ≡ marked [] coords
+unfolding marked member pick
+marked-none [] = refl
+marked-none (c ∷ cs) = ap (λ (l : List ℕ). 0 ∷ l) (marked-none cs)
+
+-- ---- one hash more
+
+module _ (query coords : List ℕ) (asc : StrictAsc coords) (h : ℕ) (in-coords : member h coords ≡ true) where
+  more : List ℕ
+  more = query ++ (h ∷ [])
+
+  more-same : member h more ≡ true
+  unfolding more member
+  more-same = member-append h query (h ∷ []) ∙ rw (eq-eqb h h refl) (or-true (member h query))
+
+  more-other : (x : ℕ) → x ≢ h → member x more ≡ member x query
+  unfolding more member
+  more-other x n = member-append x query (h ∷ []) ∙ rw (ne-eqb x h n) (or-false (member x query))
+
+  at-here : getD (marked more coords) (numberOf coords h) 0 ≡ 1
   unfolding marked pick
-  marked-in a m e =
-      map-at (λ (c : ℕ). pick (member c query) 1 0) coords j l ∙
-      ap (λ (b : Bool). pick {A = ℕ} b 1 0) (subst (λ (x : ℕ). member x query ≡ true) (sym e) (getD-member query a m))
+  at-here =
+      map-at (λ (c : ℕ). pick (member c more) 1 0) coords (numberOf coords h) (number-fits coords asc h in-coords) ∙
+      ap (λ (x : ℕ). pick {A = ℕ} (member x more) 1 0) (at-number coords asc h in-coords) ∙ ap (λ (b : Bool). pick {A = ℕ} b 1 0) more-same
 
-  marked-out : ((a : ℕ) → a < length query → getD query a 0 ≢ getD coords j 0) → getD (marked query coords) j 0 ≡ 0
-  unfolding marked pick
-  marked-out n =
-      map-at (λ (c : ℕ). pick (member c query) 1 0) coords j l ∙ ap (λ (b : Bool). pick {A = ℕ} b 1 0) (no-member (getD coords j 0) query n)
+  at-other : (i : ℕ) → i < length coords → i ≢ numberOf coords h → getD (marked more coords) i 0 ≡ getD (marked query coords) i 0
+  unfolding marked
+  at-other i l n =
+      let x = getD coords i 0 in
+      let other : x ≢ h = λ e. n (sym (number-at coords asc i l) ∙ ap (numberOf coords) e) in
+      map-at (λ (c : ℕ). pick (member c more) 1 0) coords i l ∙ ap (λ (b : Bool). pick {A = ℕ} b 1 0) (more-other x other) ∙
+      sym (map-at (λ (c : ℕ). pick (member c query) 1 0) coords i l)
 
--- ---- the walk, at hash q and coordinate i: the hashes before q lie below the coordinates to come, the others above those passed
+  marked-more : set (marked query coords) (numberOf coords h) 1 ≡ marked (query ++ (h ∷ [])) coords
+  unfolding more
+  marked-more =
+      let old = marked query coords in
+      let n = numberOf coords h in
+      let long : length (set old n 1) ≡ length coords = length-set old n 1 ∙ marked-length query coords in
+      ext-getD 0 (set old n 1) (marked more coords) (long ∙ sym (marked-length more coords))
+      (λ i l.
+      ⊎-elim
+      (λ (e : i ≡ n).
+      subst (λ (k : ℕ). getD (set old n 1) k 0 ≡ getD (marked more coords) k 0) (sym e)
+      (getD-set-same old n 1 0 (omega (arith, number-fits coords asc h in-coords, marked-length query coords)) ∙ sym at-here))
+      (λ (d : i ≢ n). getD-set-other old n i 1 0 d ∙ sym (at-other i (omega (arith, long)) d)) (eq-or-ne i n))
 
-pub record Marking (query coords cs : List ℕ) (q i : ℕ) : Type 0 where
-  pub upto : i ≤ length coords
-  pub few : q ≤ length query
+-- ---- the loop, at the hash i
+
+pub record Marking (query coords cs : List ℕ) (i : ℕ) : Type 0 where
+  pub upto : i ≤ length query
   pub long : length cs ≡ length coords
-  pub done : (j : ℕ) → j < i → getD cs j 0 ≡ getD (marked query coords) j 0
-  pub rest : (j : ℕ) → i ≤ j → getD cs j 0 ≡ 0
-  pub passed : (a j : ℕ) → a < q → i ≤ j → j < length coords → getD query a 0 < getD coords j 0
-  pub ahead : (a j : ℕ) → q ≤ a → a < length query → j < i → getD coords j 0 < getD query a 0
+  pub is : cs ≡ marked (take i query) coords
 
-pub marking-start : (query coords cs : List ℕ) → cs ≡ replicate (length coords) 0 → Marking query coords cs 0 0
-marking-start query coords cs e = record {
-  upto = omega arith;
-  few = omega arith;
-  long = ap length e ∙ length-replicate (length coords) 0;
-  done = λ j l. absurd (omega arith);
-  rest = λ j l. ap (λ (x : List ℕ). getD x j 0) e ∙ zeros-at (length coords) j;
-  passed = λ a j l m n. absurd (omega arith);
-  ahead = λ a j l m n. absurd (omega arith);
-}
+pub marking-start : (query coords cs : List ℕ) → cs ≡ replicate (length coords) 0 → Marking query coords cs 0
+marking-start query coords cs e = record { upto = omega arith; long = ap length e ∙ length-replicate (length coords) 0; is = e ∙ marked-none coords }
 
-module _ {query coords cs : List ℕ} {q i : ℕ} (s : Sound query coords) (m : Marking query coords cs q i) where
-  module _ (l : i < length coords) (f : q < length query) where
-    -- what is stored at i is all that changes
-    stored : (h : ℕ) → h ≡ getD (marked query coords) i 0 → (j : ℕ) → j < i + 1 → getD (set cs i h) j 0 ≡ getD (marked query coords) j 0
-    stored h e j k =
-        ⊎-elim
-        (λ (x : j ≡ i).
-        subst (λ (n : ℕ). getD (set cs i h) n 0 ≡ getD (marked query coords) n 0) (sym x) (getD-set-same cs i h 0 (omega (arith, m .long)) ∙ e))
-        (λ (x : j ≢ i). getD-set-other cs i j h 0 x ∙ m .done j (omega arith)) (eq-or-ne j i)
+module _ {query coords cs : List ℕ} {i : ℕ} (s : Sound query coords) (m : Marking query coords cs i) where
+  module _ (l : i < length query) (at : ℕ) (number : at ≡ numberOf coords (getD query i 0)) where
+    in-coords : member (getD query i 0) coords ≡ true
+    in-coords = s .within (getD query i 0) (getD-member query i l)
 
-    after : (h j : ℕ) → i + 1 ≤ j → getD (set cs i h) j 0 ≡ 0
-    after h j k = getD-set-other cs i j h 0 (omega arith) ∙ m .rest j (omega arith)
+    pub marking-in : at < length cs
+    marking-in = omega (arith, number, number-fits coords (s .coords-asc) (getD query i 0) in-coords, m .long)
 
-    marking-hit : getD coords i 0 ≡ getD query q 0 → Marking query coords (set cs i 1) (q + 1) (i + 1)
-    marking-hit e = record {
+    pub marking-step : Marking query coords (set cs at 1) (i + 1)
+    marking-step = record {
       upto = omega arith;
-      few = omega arith;
-      long = length-set cs i 1 ∙ m .long;
-      done = stored 1 (sym (marked-in query coords i l q f e));
-      rest = after 1;
-      passed = λ a j x y z. omega (arith, e, asc-at query (strict-asc query (s .query-asc)) a q (omega arith) f, strict-at coords (s .coords-asc) i j (omega arith) z);
-      ahead = λ a j x y z. omega (arith, e, asc-at coords (strict-asc coords (s .coords-asc)) j i (omega arith) l, strict-at query (s .query-asc) q a (omega arith) y);
+      long = length-set cs at 1 ∙ m .long;
+      is =
+          ap (λ (k : ℕ). set cs k 1) number ∙ ap (λ (x : List ℕ). set x (numberOf coords (getD query i 0)) 1) (m .is) ∙
+          marked-more (take i query) coords (s .coords-asc) (getD query i 0) in-coords ∙ ap (λ (x : List ℕ). marked x coords) (sym (rw add-one (take-suc query i 0 l)));
     }
 
-    -- the hash stands at a later coordinate
-    later : getD coords i 0 ≢ getD query q 0 → getD coords i 0 < getD query q 0
-    later n =
-        let h = getD query q 0 in
-        let p = numberOf coords h in
-        let t = s .within h (getD-member query q f) in
-        let e = at-number coords (s .coords-asc) h t in
-        ⊎-elim (λ (x : p < i). absurd (omega (arith, e, m .ahead q p (omega arith) f x)))
-        (λ (x : i ≤ p).
-        ⊎-elim (λ (y : p ≡ i). absurd (n (ap (λ (k : ℕ). getD coords k 0) (sym y) ∙ e)))
-        (λ (y : p ≢ i). omega (arith, e, strict-at coords (s .coords-asc) i p (omega arith) (number-fits coords (s .coords-asc) h t))) (eq-or-ne p i))
-        (lt-or-ge p i)
-
-    -- and so above coordinate i, with all hashes after it
-    above : getD coords i 0 ≢ getD query q 0 → (a : ℕ) → q ≤ a → a < length query → getD coords i 0 < getD query a 0
-    above n a x y = omega (arith, later n, asc-at query (strict-asc query (s .query-asc)) q a x y)
-
-    marking-miss : getD coords i 0 ≢ getD query q 0 → Marking query coords (set cs i 0) (q + 0) (i + 1)
-    marking-miss n =
-        subst (λ (k : ℕ). Marking query coords (set cs i 0) k (i + 1)) (let e : q ≡ q + 0 = omega arith in e)
-        (record {
-          upto = omega arith;
-          few = m .few;
-          long = length-set cs i 0 ∙ m .long;
-          done = stored 0
-              (sym (marked-out query coords i l
-              (λ a x y. ⊎-elim (λ (z : a < q). omega (arith, y, m .passed a i z (omega arith) l)) (λ (z : q ≤ a). omega (arith, y, above n a z x)) (lt-or-ge a q))));
-          rest = after 0;
-          passed = λ a j x y z. m .passed a j x (omega arith) z;
-          ahead = λ a j x y z.
-              ⊎-elim (λ (b : j < i). m .ahead a j x y b)
-              (λ (b : i ≤ j). subst (λ (k : ℕ). getD coords k 0 < getD query a 0) (let e : i ≡ j = omega arith in e) (above n a x y)) (lt-or-ge j i);
-        })
-
-    pub marking-step : (h : ℕ) → h ≡ hit (getD coords i 0) (getD query q 0) → Marking query coords (set cs i h) (q + h) (i + 1)
-    marking-step h e =
-        subst (λ (k : ℕ). Marking query coords (set cs i k) (q + k) (i + 1)) (sym e)
-        (by-hit (λ (k : ℕ). Marking query coords (set cs i k) (q + k) (i + 1)) (getD coords i 0) (getD query q 0) marking-hit marking-miss)
-
-  pub marking-end : length coords ≤ i → cs ≡ marked query coords
-  marking-end l = ext-getD 0 cs (marked query coords) (m .long ∙ sym (marked-length query coords)) (λ j k. m .done j (omega (arith, m .long)))
-
-  -- past the query's last hash none is marked
-  pub marking-full : length query ≤ q → cs ≡ marked query coords
-  marking-full l =
-      ext-getD 0 cs (marked query coords) (m .long ∙ sym (marked-length query coords))
-      (λ j k.
-      ⊎-elim (λ (x : j < i). m .done j x)
-      (λ (x : i ≤ j).
-      let in-coords : j < length coords = omega (arith, m .long) in
-      m .rest j x ∙ sym (marked-out query coords j in-coords (λ a y z. omega (arith, z, m .passed a j (omega arith) x in-coords)))) (lt-or-ge j i))
+  pub marking-end : length query ≤ i → cs ≡ marked query coords
+  marking-end l = m .is ∙ ap (λ (x : List ℕ). marked x coords) (take-all i query l)
 
 -- ---- the state before the first step
 

@@ -9,6 +9,7 @@ use Rattle.base.specs.Lists.{All, StrictAsc}
 use Rattle.base.specs.Buffers.{over}
 use Rattle.rules.specs.Limits.{coordLimit, stepLimit}
 use Rattle.rules.specs.Lists.{member}
+use Rattle.rules.specs.Score.{numberOf}
 use Rattle.rules.specs.Checks.{ceil64}
 use Rattle.rules.specs.Script.{Script, Look, look, looks, noCounts, lastOr}
 use Rattle.rules.specs.Moves.{marks, begin, moved, movedBy, slideLook}
@@ -23,6 +24,10 @@ pub record Sound (query coords : List ℕ) : Type 0 where
   pub query-asc : StrictAsc query
   pub coords-asc : StrictAsc coords
   pub within : (h : ℕ) → member h query ≡ true → member h coords ≡ true
+
+-- the places of the query's first n hashes among the coordinates
+pub record Placed (query coords places : List ℕ) (n : ℕ) : Type 0 where
+  pub at : (i : ℕ) → i < n → getD places i 0 ≡ numberOf coords (getD query i 0)
 
 -- the steps passed theirs, over m coordinates
 pub record Steps (m : ℕ) (indexes kinds : List ℕ) : Type 0 where

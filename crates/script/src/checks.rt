@@ -6,7 +6,9 @@ ghost use Rattle.base.specs.Lists.{All, StrictAsc};
 ghost use Rattle.base.specs.Verdicts.{refuse};
 ghost use Rattle.rules.specs.Checks.{scriptSizes, scriptOrders, firstMissing, firstBadStep, scriptMembers, scriptNeeds};
 ghost use Rattle.rules.specs.Refusals.{scriptVerdict};
+ghost use Rattle.base.specs.declared.Verdict.the-variants.{Fine};
 ghost use Rattle.script.specs.Given.{scriptOf, roomOf, Sized};
+ghost use Rattle.script.specs.Work.{Placed};
 use crate::walk;
 use base::Refusal;
 use base::Verdict;
@@ -66,22 +68,27 @@ fn check_orders(query: &[u64], coords: &[u64]) -> Verdict
     Verdict::Fine
 }
 
-// The index of the first query hash that is no coordinate, or the query's length: one walk over both lists. It moves by a sum, since a
-// branch on a hash is guessed wrong too often.
-fn first_missing(query: &[u64], coords: &[u64]) -> usize
-    requires { ⌜ StrictAsc (now query) × StrictAsc (now coords) ⌝ }
-    ensures { λ r. ⌜ r ≡ firstMissing (now (coords .entry)) (now (query .entry)) ⌝ }
+// The index of the first query hash that is no coordinate, or the query's length: one walk over both lists. The places of the hashes
+// before it are left in `places`, so that the marking need not walk again.
+fn first_missing(query: &[u64], coords: &[u64], places: &mut [u32]) -> usize
+    requires { ⌜ StrictAsc (now query) × StrictAsc (now coords) × (length (now coords) ≤ 65536) × (length (now query) ≤ length (now places)) ⌝ }
+    ensures { λ r. ⌜ (r ≡ firstMissing (now (coords .entry)) (now (query .entry))) × Placed (now (query .entry)) (now (coords .entry)) (now (places .exit)) r ⌝ }
 {
-    let mut q = 0;
+    let mut at = 0;
     let mut i = 0;
-    while i < coords.len() {
-        if query.len() <= q {
-            return q;
+    while i < query.len() {
+        let hash = query[i];
+        at = walk::reach(coords, hash, at);
+        if coords.len() <= at {
+            return i;
         }
-        q += walk::one_if_equal(coords[i], query[q]) as usize;
+        if coords[at] != hash {
+            return i;
+        }
+        places[i] = at as u32;
         i += 1;
     }
-    q
+    i
 }
 
 fn larger(x: u32, y: u32) -> u32
@@ -147,11 +154,17 @@ fn first_bad_step(n: usize, indexes: &[u32], kinds: &[u8]) -> usize
 }
 
 // 6.
-fn check_members(query: &[u64], coords: &[u64], indexes: &[u32], kinds: &[u8]) -> Verdict
-    requires { ⌜ Sized (now query) (now coords) (now indexes) (now kinds) × StrictAsc (now query) × StrictAsc (now coords) ⌝ }
-    ensures { λ r. ⌜ r ≡ scriptMembers (now (query .entry)) (now (coords .entry)) (now (indexes .entry)) (now (kinds .entry)) ⌝ }
+fn check_members(
+    query: &[u64],
+    coords: &[u64],
+    indexes: &[u32],
+    kinds: &[u8],
+    places: &mut [u32],
+) -> Verdict
+    requires { ⌜ Sized (now query) (now coords) (now indexes) (now kinds) × StrictAsc (now query) × StrictAsc (now coords) × (length (now query) ≤ length (now places)) ⌝ }
+    ensures { λ r. ⌜ (r ≡ scriptMembers (now (query .entry)) (now (coords .entry)) (now (indexes .entry)) (now (kinds .entry))) × Placed (now (query .entry)) (now (coords .entry)) (now (places .exit)) (firstMissing (now (coords .entry)) (now (query .entry))) ⌝ }
 {
-    let i = first_missing(query, coords);
+    let i = first_missing(query, coords, places);
     if i < query.len() {
         return refused(6, i);
     }
@@ -194,7 +207,7 @@ fn check_needs(
     Verdict::Fine
 }
 
-// All of them; of the lent lists the lengths.
+// All of them; of the lent lists the lengths. Where all are fine, the places of the query are left in `places`.
 pub fn check(
     query: &[u64],
     coords: &[u64],
@@ -205,8 +218,10 @@ pub fn check(
     summary: usize,
     pivots: usize,
     shareds: usize,
+    places: &mut [u32],
 ) -> Verdict
-    ensures { λ r. ⌜ r ≡ scriptVerdict (scriptOf (now (query .entry)) (now (coords .entry)) (now (indexes .entry)) (now (kinds .entry))) (roomOf counts words summary pivots shareds) ⌝ }
+    requires { ⌜ 4096 ≤ length (now places) ⌝ }
+    ensures { λ r. ⌜ (r ≡ scriptVerdict (scriptOf (now (query .entry)) (now (coords .entry)) (now (indexes .entry)) (now (kinds .entry))) (roomOf counts words summary pivots shareds)) × (r ≡ Fine → Placed (now (query .entry)) (now (coords .entry)) (now (places .exit)) (firstMissing (now (coords .entry)) (now (query .entry)))) ⌝ }
 {
     let m = coords.len();
     let steps = indexes.len();
@@ -218,7 +233,7 @@ pub fn check(
     if let Verdict::No(refusal) = orders {
         return Verdict::No(refusal);
     }
-    let members = check_members(query, coords, indexes, kinds);
+    let members = check_members(query, coords, indexes, kinds, places);
     if let Verdict::No(refusal) = members {
         return Verdict::No(refusal);
     }

@@ -1,10 +1,21 @@
-// The test of a walk over two ascending lists, as a number, so that the walk moves with no branch.
+// One step of a walk over two ascending lists.
 ghost use mathlib.Core.Path.{_≡_};
-ghost use Rattle.base.specs.Lists.{hit};
+ghost use Prim.Native.Nat.{_≤_};
+ghost use Rattle.base.specs.Lists.{StrictAsc};
+ghost use Rattle.rules.specs.Score.{numberOf};
 
-// 1 where the two are equal, else 0.
-pub fn one_if_equal(x: u64, y: u64) -> u32
-    ensures { λ r. ⌜ r ≡ hit x y ⌝ }
+// The number of the hash among the coordinates, which is no less than `from`: the walk passes the coordinates below it. Its branch is guessed
+// wrong about once for each hash; a walk that moves by a sum waits at each coordinate for the one before it, which is dearer.
+pub fn reach(coords: &[u64], hash: u64, from: usize) -> usize
+    requires { ⌜ StrictAsc (now coords) × (from ≤ numberOf (now coords) hash) ⌝ }
+    ensures { λ r. ⌜ r ≡ numberOf (now (coords .entry)) hash ⌝ }
 {
-    if x == y { 1 } else { 0 }
+    let mut at = from;
+    while at < coords.len() {
+        if hash <= coords[at] {
+            return at;
+        }
+        at += 1;
+    }
+    at
 }

@@ -5,25 +5,19 @@ ghost use Prim.Native.Nat.{_+_, _^_, _≤_, _<_};
 ghost use lib.ListN.{length, getD, replicate};
 ghost use Rattle.slide_mapper.specs.State.{flagsOf, slideOf, Ready};
 ghost use Rattle.script.specs.Given.{scriptOf};
-ghost use Rattle.script.specs.Work.{Sound, Accepted, Exact, Clear, marked, Begun, Stepped, lookOf, looksFrom, Underway, Start, Answered, Further, Worked};
-use crate::walk;
+ghost use Rattle.script.specs.Work.{Sound, Placed, Accepted, Exact, Clear, marked, Begun, Stepped, lookOf, looksFrom, Underway, Start, Answered, Further, Worked};
 use base::Coord;
 use slide_mapper::Slide;
 
-// Marks the query: 1 in the count word of each of its hashes, in one walk over both lists.
-fn mark(query: &[u64], coords: &[u64], counts: &mut [u32])
-    requires { ⌜ Sound (now query) (now coords) × (now counts ≡ replicate (length (now coords)) 0) ⌝ }
+// Marks the query: 1 in the count word of each of its hashes, whose places the checks have found.
+fn mark(query: &[u64], coords: &[u64], places: &[u32], counts: &mut [u32])
+    requires { ⌜ Sound (now query) (now coords) × Placed (now query) (now coords) (now places) (length (now query)) × (length (now query) ≤ length (now places)) × (now counts ≡ replicate (length (now coords)) 0) ⌝ }
     ensures { λ _. ⌜ now (counts .exit) ≡ marked (now (query .entry)) (now (coords .entry)) ⌝ }
 {
-    let mut q = 0;
     let mut i = 0;
-    while i < coords.len() {
-        if query.len() <= q {
-            return;
-        }
-        let hit = walk::one_if_equal(coords[i], query[q]);
-        counts[i] = hit;
-        q += hit as usize;
+    while i < query.len() {
+        let place = places[i] as usize;
+        counts[place] = 1;
         i += 1;
     }
 }
@@ -32,14 +26,15 @@ fn mark(query: &[u64], coords: &[u64], counts: &mut [u32])
 fn prepare(
     query: &[u64],
     coords: &[u64],
+    places: &[u32],
     counts: &mut [u32],
     words: &mut [u64],
     summary: &mut [u64],
 ) -> Slide
-    requires { ⌜ Sound (now query) (now coords) × Clear (length (now coords)) (now counts) (now words) (now summary) ⌝ }
+    requires { ⌜ Sound (now query) (now coords) × Placed (now query) (now coords) (now places) (length (now query)) × (length (now query) ≤ length (now places)) × Clear (length (now coords)) (now counts) (now words) (now summary) ⌝ }
     ensures { λ r. ⌜ Begun (now (query .entry)) (now (coords .entry)) (now (counts .exit)) (now (words .exit)) (now (summary .exit)) r ⌝ }
 {
-    mark(query, coords, counts);
+    mark(query, coords, places, counts);
     slide_mapper::begin(counts, words, summary)
 }
 
@@ -156,16 +151,17 @@ fn work(
     coords: &[u64],
     indexes: &[u32],
     kinds: &[u8],
+    places: &[u32],
     counts: &mut [u32],
     words: &mut [u64],
     summary: &mut [u64],
     pivots: &mut [u32],
     shareds: &mut [u32],
 ) -> Slide
-    requires { ⌜ Accepted (scriptOf (now query) (now coords) (now indexes) (now kinds)) (now pivots) (now shareds) × Clear (length (now coords)) (now counts) (now words) (now summary) ⌝ }
+    requires { ⌜ Accepted (scriptOf (now query) (now coords) (now indexes) (now kinds)) (now pivots) (now shareds) × Placed (now query) (now coords) (now places) (length (now query)) × (length (now query) ≤ length (now places)) × Clear (length (now coords)) (now counts) (now words) (now summary) ⌝ }
     ensures { λ r. ⌜ Worked (scriptOf (now (query .entry)) (now (coords .entry)) (now (indexes .entry)) (now (kinds .entry))) (now (pivots .entry)) (now (shareds .entry)) (now (counts .exit)) (now (words .exit)) (now (summary .exit)) (now (pivots .exit)) (now (shareds .exit)) r ⌝ }
 {
-    let start = prepare(query, coords, counts, words, summary);
+    let start = prepare(query, coords, places, counts, words, summary);
     let last = run(
         indexes,
         kinds,
@@ -186,13 +182,14 @@ pub fn clear_and_work(
     coords: &[u64],
     indexes: &[u32],
     kinds: &[u8],
+    places: &[u32],
     counts: &mut [u32],
     words: &mut [u64],
     summary: &mut [u64],
     pivots: &mut [u32],
     shareds: &mut [u32],
 ) -> Slide
-    requires { ⌜ Accepted (scriptOf (now query) (now coords) (now indexes) (now kinds)) (now pivots) (now shareds) × Exact (length (now coords)) (now counts) (now words) (now summary) ⌝ }
+    requires { ⌜ Accepted (scriptOf (now query) (now coords) (now indexes) (now kinds)) (now pivots) (now shareds) × Placed (now query) (now coords) (now places) (length (now query)) × (length (now query) ≤ length (now places)) × Exact (length (now coords)) (now counts) (now words) (now summary) ⌝ }
     ensures { λ r. ⌜ Worked (scriptOf (now (query .entry)) (now (coords .entry)) (now (indexes .entry)) (now (kinds .entry))) (now (pivots .entry)) (now (shareds .entry)) (now (counts .exit)) (now (words .exit)) (now (summary .exit)) (now (pivots .exit)) (now (shareds .exit)) r ⌝ }
 {
     clear(counts, words, summary);
@@ -201,6 +198,7 @@ pub fn clear_and_work(
         coords,
         indexes,
         kinds,
+        places,
         counts,
         words,
         summary,

@@ -7,13 +7,13 @@ use Rattle.base.specs.declared.Verdict.the-variants.{Fine}
 use Rattle.rules.specs.Script.{Script}
 use Rattle.rules.specs.Refusals.{ScriptRoom}
 use Rattle.script.specs.Given.{scriptOf, roomOf}
-use Rattle.script.proofs.Checking.{sizes, orders, members, refused-sizes, refused-orders, refused-members, left-to-needs, sizes-fine, orders-fine}
+use Rattle.script.proofs.Checking.{sizes, orders, members, refused-sizes, refused-orders, refused-members, left-to-needs, sizes-fine, orders-fine, no-fine}
 use Rattle.script.proofs.checks.check.Statement.{statement}
 use Rattle.script.proofs.checks.check.Tie as tie
 
 -- the arguments, from the first answer
 abbrev st : tie.After-check-sizes → tie.Start
-st k = k .before .before .before .before .before
+st k = k .before .before .before .before .before .before
 
 abbrev asked : tie.After-check-sizes → Script
 asked k = let a = st k .args in scriptOf (now (a .query)) (now (a .coords)) (now (a .indexes)) (now (a .kinds))
@@ -29,7 +29,7 @@ abbrev k₂ : tie.After-enum-told2 → tie.After-check-sizes
 k₂ t = k₁ (t .before .before .before)
 
 abbrev k₃ : tie.After-enum-told3 → tie.After-check-sizes
-k₃ t = k₂ (t .before .before .before)
+k₃ t = k₂ (t .before .before .before .before .before .before)
 
 fine₁ : (t : tie.After-enum-told) → sizes (asked (k₁ t)) ≡ Fine
 fine₁ t = sym (k₁ t .check-sizes .ensures) ∙ t .enum-told .given .1
@@ -38,7 +38,7 @@ fine₂ : (t : tie.After-enum-told2) → orders (asked (k₂ t)) ≡ Fine
 fine₂ t = sym (t .before .before .check-orders .ensures) ∙ t .enum-told2 .given .1
 
 fine₃ : (t : tie.After-enum-told3) → members (asked (k₃ t)) ≡ Fine
-fine₃ t = sym (t .before .before .check-members .ensures) ∙ t .enum-told3 .given .1
+fine₃ t = sym (t .before .before .before .before .check-members .ensures .0) ∙ t .enum-told3 .given .1
 
 check-sizes-requires : tie.Need-check-sizes-requires
 check-sizes-requires c κs = search needs
@@ -49,7 +49,7 @@ enum-known-sizes c = search needs
 returns : tie.Need-returns
 returns c =
     let k = c .before .before .before in
-    refused-sizes (asked k) (room k) _ (sym (k .check-sizes .ensures) ∙ c .before .sizes .given .1)
+    (refused-sizes (asked k) (room k) _ (sym (k .check-sizes .ensures) ∙ c .before .sizes .given .1), λ e. absurd (no-fine _ e))
 
 enum-told : tie.Need-enum-told
 enum-told c = search needs
@@ -67,37 +67,47 @@ returns-2 c =
     let d = c .before .before .before in
     let t = d .before in
     let k = k₁ t in
-    refused-orders (asked k) (room k) (fine₁ t) _ (sym (d .check-orders .ensures) ∙ c .before .orders .given .1)
+    (refused-orders (asked k) (room k) (fine₁ t) _ (sym (d .check-orders .ensures) ∙ c .before .orders .given .1), λ e. absurd (no-fine _ e))
 
 enum-told-2 : tie.Need-enum-told-2
 enum-told-2 c = search needs
 
 check-members-requires : tie.Need-check-members-requires
 check-members-requires c κs =
-    let o = orders-fine (asked (k₂ c)) (fine₂ c) in
-    (sizes-fine (asked (k₂ c)) (fine₁ (c .before .before .before)), o .1, o .2)
+    let t = c .before in
+    let z = sizes-fine (asked (k₂ t)) (fine₁ (t .before .before .before)) in
+    let o = orders-fine (asked (k₂ t)) (fine₂ t) in
+    (z, o .1, o .2, omega (arith, z .few-hashes, st (k₂ t) .pre))
 
 enum-known-members : tie.Need-enum-known-members
 enum-known-members c = search needs
 
+same-length : tie.Need-same-length
+same-length c = search needs
+
 returns-3 : tie.Need-returns-3
 returns-3 c =
-    let d = c .before .before .before in
-    let t = d .before in
+    let d = c .before .before .before .before .before in
+    let t = d .before .before in
     let k = k₂ t in
-    refused-members (asked k) (room k) (fine₁ (t .before .before .before)) (fine₂ t) _ (sym (d .check-members .ensures) ∙ c .before .members .given .1)
+    (refused-members (asked k) (room k) (fine₁ (t .before .before .before)) (fine₂ t) _ (sym (d .check-members .ensures .0) ∙ c .before .members .given .1), λ e. absurd (no-fine _ e))
 
 enum-told-3 : tie.Need-enum-told-3
 enum-told-3 c = search needs
 
 check-needs-requires : tie.Need-check-needs-requires
-check-needs-requires c κs = sizes-fine (asked (k₃ c)) (fine₁ (c .before .before .before .before .before .before)) .few-coords
+check-needs-requires c κs = sizes-fine (asked (k₃ c)) (fine₁ (c .before .before .before .before .before .before .before .before .before)) .few-coords
+
+same-length-2 : tie.Need-same-length-2
+same-length-2 c = search needs
 
 returns-4 : tie.Need-returns-4
 returns-4 c =
     let t = c .before in
-    let k = k₃ t in
-    left-to-needs (asked k) (room k) (fine₁ (t .before .before .before .before .before .before)) (fine₂ (t .before .before .before)) _ (fine₃ t) (c .check-needs .ensures)
+    let k = k₃ t in (
+      left-to-needs (asked k) (room k) (fine₁ (t .before .before .before .before .before .before .before .before .before)) (fine₂ (t .before .before .before .before .before .before)) _ (fine₃ t) (c .check-needs .ensures),
+      λ e. t .before .before .before .before .check-members .ensures .1,
+    )
 
 pub check-spec : {M : Type 1} → statement M
 check-spec =
@@ -113,7 +123,9 @@ check-spec =
     enum-told-2
     check-members-requires
     enum-known-members
+    same-length
     returns-3
     enum-told-3
     check-needs-requires
+    same-length-2
     returns-4)

@@ -10,8 +10,8 @@ clear-requires c κs = search needs
 work-requires : tie.Need-work-requires
 work-requires c κs =
     let k = c .before .before .before .before .before .before .before .before .before .before .before in
-    let t = k .before .before .before .before .before .before .before .before .before .before .before .before .before in
-    (t .pre .0, exact-clear (t .pre .1) (k .clear .ensures .0) (k .clear .ensures .1) (k .clear .ensures .2))
+    let t = k .before .before .before .before .before .before .before .before .before .before .before .before .before .before in
+    (t .pre .0, t .pre .1, t .pre .2, exact-clear (t .pre .3) (k .clear .ensures .0) (k .clear .ensures .1) (k .clear .ensures .2))
 
 same-length : tie.Need-same-length
 same-length c = search needs

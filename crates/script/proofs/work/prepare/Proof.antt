@@ -6,13 +6,13 @@ use Rattle.script.proofs.work.prepare.Tie as tie
 
 -- the entry, from after the query is marked
 abbrev st : tie.After-mark → tie.Start
-st d = d .before .before .before .before .before .before .before
+st d = d .before .before .before .before .before .before .before .before
 
 mark-requires : tie.Need-mark-requires
 mark-requires c κs = search needs
 
 begin-requires : tie.Need-begin-requires
-begin-requires c κs = let d = c .before .before .before .before .before in begin-blank (st d .pre .0) (st d .pre .1) (d .mark .ensures)
+begin-requires c κs = let d = c .before .before .before .before .before in begin-blank (st d .pre .0) (st d .pre .3) (d .mark .ensures)
 
 same-length : tie.Need-same-length
 same-length c = search needs

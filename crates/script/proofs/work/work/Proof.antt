@@ -9,10 +9,10 @@ use Rattle.script.proofs.work.work.Tie as tie
 
 -- the entry, from the first state
 abbrev st : tie.After-prepare → tie.Start
-st p = p .before .before .before .before .before .before .before .before .before .before .before .before .before
+st p = p .before .before .before .before .before .before .before .before .before .before .before .before .before .before
 
-exact : (p : tie.After-prepare) → Exact (length (now (st p .args .coords))) (p .prepare .last .1 .1 .0) (p .prepare .last .1 .1 .1 .0) (p .prepare .last .1 .1 .1 .1 .0)
-exact p = exact-kept (clear-exact (st p .pre .1)) (p .prepare .kept .1 .1 .0) (p .prepare .kept .1 .1 .1 .0) (p .prepare .kept .1 .1 .1 .1 .0)
+exact : (p : tie.After-prepare) → Exact (length (now (st p .args .coords))) (p .prepare .last .1 .1 .1 .0) (p .prepare .last .1 .1 .1 .1 .0) (p .prepare .last .1 .1 .1 .1 .1 .0)
+exact p = exact-kept (clear-exact (st p .pre .3)) (p .prepare .kept .1 .1 .1 .0) (p .prepare .kept .1 .1 .1 .1 .0) (p .prepare .kept .1 .1 .1 .1 .1 .0)
 
 -- the run keeps the sizes
 abbrev p₁ : tie.After-run → tie.After-prepare
