@@ -8,3 +8,5 @@ pub mod Answering
 pub mod Whole
 -- Unique: the contract determines the answer and all memory
 pub mod Unique
+-- Refuted: wrong sweeps that the contract refuses
+pub mod Refuted
