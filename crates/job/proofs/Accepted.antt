@@ -16,13 +16,13 @@ use Rattle.base.proofs.Order.{eq-or-ne, lt-or-ge}
 use Rattle.rules.specs.Lists.{filter}
 use Rattle.rules.specs.Limits.{jobLimit}
 use Rattle.rules.specs.Job.{FieldRow, single, optional, several, joining, fieldTable, Field, joinedData, modeOf, tagBefore, unitOf, fits, tooMany, faultOf, fieldAt, lengthAt, isCut, refusedAt, whole, afterEnd, readFrom, read, units}
-use Rattle.job.specs.Table.{rowsWith}
+use Rattle.job_fields.specs.Table.{rowsWith}
 use Rattle.job.specs.Units.{fieldsIn, unitsIn, columnOf, Each, Joined, itemUnit, Accepted}
-use Rattle.job.proofs.Picks.{pick-yes, pick-no}
-use Rattle.job.proofs.Faults.{Passed, passed}
-use Rattle.job.proofs.Fields.{joined-none, joined-cons, joined-here, joined-past, joined-more, joined-kept, before-more}
-use Rattle.job.proofs.Heads.{cut-header}
-use Rattle.job.proofs.Steps.{in-order, row-tag, reads-cut, reads-fault, reads-end, reads-on}
+use Rattle.job_fields.proofs.Picks.{pick-yes, pick-no}
+use Rattle.job_fields.proofs.Faults.{Passed, passed}
+use Rattle.job_fields.proofs.Fields.{joined-none, joined-cons, joined-here, joined-past, joined-more, joined-kept, before-more}
+use Rattle.job_fields.proofs.Heads.{cut-header}
+use Rattle.job_fields.proofs.Steps.{in-order, row-tag, reads-cut, reads-fault, reads-end, reads-on}
 use Rattle.job.proofs.UnitLists.{units-none, units-append, units-count}
 use Rattle.job.proofs.Units.{fields-cut, fields-next}
 

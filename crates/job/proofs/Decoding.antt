@@ -19,8 +19,8 @@ use Rattle.job.specs.Read.{askedBy, askedOf, decoded, decodedOf, Lists, 
 use Rattle.job.specs.declared.fill.Cursor.{Cursor}
 use Rattle.job.specs.declared.fill.Asked.{Asked}
 use Rattle.job.specs.declared.fill.Decoded.{Decoded}
-use Rattle.job.proofs.Picks.{pick-yes, pick-no}
-use Rattle.job.proofs.Heads.{first-drop}
+use Rattle.job_fields.proofs.Picks.{pick-yes, pick-no}
+use Rattle.job_fields.proofs.Heads.{first-drop}
 use Rattle.job.proofs.UnitLists.{units-first, units-empty, units-number}
 use Rattle.job.proofs.Numbers.{number-in}
 use Rattle.job.proofs.Units.{unit-past}

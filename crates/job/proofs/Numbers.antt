@@ -6,7 +6,7 @@ use native.Mathlib.Omega.{arith}
 use lib.ListN.{length, getD, take, drop, length-drop}
 use lib.Seq.{getD-drop, take-take, drop-drop}
 use Rattle.rules.specs.Job.{number, numberAt}
-use Rattle.job.proofs.Heads.{first-drop}
+use Rattle.job_fields.proofs.Heads.{first-drop}
 use Rattle.job.proofs.UnitLists.{drop-take}
 
 four-of : (l : List ℕ) → 4 ≤ length l → number (take 4 l) ≡ getD l 0 0 + 256 * getD l 1 0 + 65536 * getD l 2 0 + 16777216 * getD l 3 0

@@ -6,7 +6,7 @@ use native.Mathlib.Omega.{arith}
 use Rattle.base.specs.declared.Refusal.{Refusal}
 use Rattle.base.specs.declared.Verdict.the-variants.{Fine, No}
 use Rattle.rules.specs.Job.{Field, Reading, refusedAt, whole, jobOf, read}
-use Rattle.job.specs.Judge.{verdictOf}
+use Rattle.job_fields.specs.Judge.{verdictOf}
 use Rattle.job.specs.Units.{Accepted}
 use Rattle.job.specs.Read.{decoded, decodedOf, Lists, filled, answerOf, listsLeft, ReadPromise}
 use Rattle.job.specs.declared.Answer.{Answer}

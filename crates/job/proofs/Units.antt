@@ -13,8 +13,8 @@ use Rattle.base.specs.Pick.{pick}
 use Rattle.rules.specs.Job.{Field, fieldAt, lengthAt, isCut, units}
 use Rattle.job.specs.Units.{fieldsOf, fieldsIn, unitsIn, unitsFrom, Stands, Met}
 use Rattle.job.specs.declared.fill.Cursor.{Cursor}
-use Rattle.job.proofs.Picks.{pick-yes, pick-no}
-use Rattle.job.proofs.Heads.{cut-header, whole-field}
+use Rattle.job_fields.proofs.Picks.{pick-yes, pick-no}
+use Rattle.job_fields.proofs.Heads.{cut-header, whole-field}
 use Rattle.job.proofs.UnitLists.{drop-take, units-none, units-cons}
 
 -- ---- the fields

@@ -11,9 +11,9 @@ ghost use Rattle.rules.specs.Limits.{jobLimit, jobItemLimit, jobEstimateLimit, 
 ghost use Rattle.rules.specs.Job.{joinedData, modeOf, number, numberAt};
 ghost use Rattle.job.specs.Units.{fieldsIn, unitsIn, unitsFrom, Stands, Got, columnOf, floatAt, Column, Accepted};
 ghost use Rattle.job.specs.Read.{askedBy, askedOf, decoded, decodedOf, listsOf, filled, Items, Estimates};
-use crate::judge::Head;
 use base::Range;
 use base::Settings;
+use job_fields::judge::Head;
 
 // What 03 asks: the window is the minimizer sweep's alone.
 pub struct Asked {
@@ -107,7 +107,7 @@ fn unit_behind(job: &[u8], from: usize, tag: u8, size: usize) -> Piece
 {
     let mut at = from;
     loop {
-        let head = crate::judge::header(job, at);
+        let head = job_fields::judge::header(job, at);
         let Head::Field(found, n) = head else {
             return Piece::NoMore;
         };

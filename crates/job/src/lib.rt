@@ -1,8 +1,6 @@
-// Reads a job: fields of tag, length and data, in place, by a fixed table. The first pass judges the whole file and writes nothing; the second fills the lists that it is
-// lent. So a refusal leaves every list as it was. The functions over the bytes take slice and offset, and answer an enum with the next offset.
+// Reads a job: fields of tag, length and data, in place. The first pass, over `job_fields`' table, judges the whole file and writes nothing; the second fills the lists that
+// it is lent. So a refusal leaves every list as it was.
 pub mod fill;
-pub mod judge;
-pub mod table;
 
 ghost use Rattle.job.specs.Read.{listsOf, ReadPromise};
 use base::Refusal;
@@ -30,7 +28,7 @@ pub fn read(
 ) -> Answer
     ensures { λ r. ⌜ ReadPromise (now (job .entry)) r (listsOf (now (query .entry)) (now (hashes .entry)) (now (starts .entry)) (now (ends .entry)) (now (identities .entry)) (now (uppers .entry)) (now («identity_bits» .entry)) (now («upper_bits» .entry))) (listsOf (now (query .exit)) (now (hashes .exit)) (now (starts .exit)) (now (ends .exit)) (now (identities .exit)) (now (uppers .exit)) (now («identity_bits» .exit)) (now («upper_bits» .exit))) ⌝ }
 {
-    let verdict = judge::judge(job);
+    let verdict = job_fields::judge::judge(job);
     if let Verdict::No(refusal) = verdict {
         return Answer::Refused(refusal);
     }

@@ -22,7 +22,7 @@ use Rattle.job.specs.Units.{fieldsIn, itemUnit, Accepted}
 use Rattle.job.specs.declared.fill.Decoded.{Decoded}
 use Rattle.job.proofs.Accepted.{accepted, all-fields}
 use Rattle.job.proofs.Decoding.{query-count, items-joined, items-filled, estimates-filled}
-use Rattle.job.proofs.Picks.{pick-yes, pick-no}
+use Rattle.job_fields.proofs.Picks.{pick-yes, pick-no}
 use Rattle.lines.specs.Written.{linesBy}
 use Rattle.lines.proofs.Writing.{lines-are}
 use Rattle.run.specs.Mapped.{pointsOf, spansOf, minimizerDone, intervalDone, answerIn, Held, linesIn}

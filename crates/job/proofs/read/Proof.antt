@@ -3,7 +3,7 @@ use mathlib.Core.Path.{_≡_, sym, _∙_}
 use denote.Ref.{now}
 use Rattle.base.specs.declared.Verdict.the-variants.{Fine}
 use Rattle.rules.specs.Job as rules
-use Rattle.job.specs.Judge.{verdictOf}
+use Rattle.job_fields.specs.Judge.{verdictOf}
 use Rattle.job.proofs.Reading.{refused-promise, is-accepted, read-promise}
 use borrow.Author.Needs.{needs}
 use Rattle.job.proofs.read.Statement.{statement}

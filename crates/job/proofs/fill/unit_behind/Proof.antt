@@ -9,7 +9,7 @@ use denote.Ref.{now}
 use lib.ListN.{length, getD, drop, length-drop}
 use Rattle.rules.specs.Job.{isCut, lengthAt}
 use Rattle.job.specs.Units.{fieldsIn, unitsIn, Got}
-use Rattle.job.proofs.Heads.{header-is-cut, header-is-field, whole-field}
+use Rattle.job_fields.proofs.Heads.{header-is-cut, header-is-field, whole-field}
 use Rattle.job.proofs.Units.{unit-end, unit-skip, unit-found, unit-taken}
 use Rattle.job.proofs.fill.unit_behind.Statement.{statement}
 use Rattle.job.proofs.fill.unit_behind.Tie as tie
