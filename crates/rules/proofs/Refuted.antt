@@ -19,6 +19,7 @@ use Rattle.base.proofs.Buffers.{zeroed-in}
 use Rattle.rules.specs.Checks.{ceil64}
 use Rattle.rules.specs.Refusals.{workLeft}
 use Rattle.rules.specs.Sweep.{Sweep}
+use Rattle.rules.specs.Finder.{Finder}
 use Rattle.rules.specs.Text.{text}
 use Rattle.rules.specs.Lines.{line, refusedLine, said}
 use Rattle.rules.specs.Told.{Told, toldRefused, toldDone, toldSweep}
@@ -58,6 +59,15 @@ askedWith s = sweepWith (s .settings .kmer) 0 (s .settings .length) (s .query) (
 
 abbrev pub asked : Sweep → Sweep
 asked s = askedWith s (s .identities) (s .uppers) (s .minimum)
+
+-- rows H and K, K as the interval finder's call asks for it, which has no length
+abbrev pub rowH : Finder
+rowH = finderOf (5 ∷ 8 ∷ 15 ∷ []) []
+
+abbrev pub rowK : Finder
+rowK =
+    let f = finderOf (2 ∷ 4 ∷ 6 ∷ []) (6 ∷ 8 ∷ 9 ∷ []) in
+    record { contigs = f .contigs; starts = f .starts; ends = f .ends; groups = f .groups; threshold = f .threshold; minimum = f .minimum; length = 0 }
 
 -- Either sweep, where it is to tell t. A place tells seven values: no refusal does,
 pub sweep-refuses : (x : Refusal) {t : Told} → toldSweep (SweepAnswer.Refused x) ≡ t → size t ≡ 7 → ⊥
@@ -161,21 +171,21 @@ script-repeats-first r after same p =
     let e : _≡_ {A = ℕ} 3 1 = ap (λ xs. getD xs 1 0) (sym same ∙ p .left .pivots) in omega (arith, e)
 
 -- The finders: one that refuses all,
-pub finder-refuses-all : (x : Refusal) (after : FinderLent) → MinimizerFinderPromise (finderOf (5 ∷ 8 ∷ 15 ∷ []) []) (FinderAnswer.Refused x) onesHits after → ⊥
+pub finder-refuses-all : (x : Refusal) (after : FinderLent) → MinimizerFinderPromise rowH (FinderAnswer.Refused x) onesHits after → ⊥
 unfolding computes
 finder-refuses-all x after p = let e : _≡_ {A = ℕ} 0 2 = ap size (p .answer) in omega (arith, e)
 
 -- one that lists nothing,
-pub finder-lists-nothing : (hits : ℕ) (after : FinderLent) → MinimizerFinderPromise (finderOf (5 ∷ 8 ∷ 15 ∷ []) []) (FinderAnswer.Listed 0 hits) onesHits after → ⊥
+pub finder-lists-nothing : (hits : ℕ) (after : FinderLent) → MinimizerFinderPromise rowH (FinderAnswer.Listed 0 hits) onesHits after → ⊥
 unfolding computes
 finder-lists-nothing hits after p = let e : _≡_ {A = ℕ} 0 2 = ap (value 0) (p .answer) in omega (arith, e)
 
-pub interval-finder-lists-nothing : (hits : ℕ) (after : FinderLent) (endKeys : List ℕ) → IntervalFinderPromise (finderOf (2 ∷ 4 ∷ 6 ∷ []) (6 ∷ 8 ∷ 9 ∷ [])) (FinderAnswer.Listed 0 hits) onesHits after (replicate 3 1) endKeys → ⊥
+pub interval-finder-lists-nothing : (hits : ℕ) (after : FinderLent) (endKeys : List ℕ) → IntervalFinderPromise rowK (FinderAnswer.Listed 0 hits) onesHits after (replicate 3 1) endKeys → ⊥
 unfolding computes
 interval-finder-lists-nothing hits after endKeys p = let e : _≡_ {A = ℕ} 0 1 = ap (value 0) (p .answer) in omega (arith, e)
 
 -- one that does nothing to its candidate lists
-pub finder-does-nothing : (r : FinderAnswer) → MinimizerFinderPromise (finderOf (5 ∷ 8 ∷ 15 ∷ []) []) r onesHits onesHits → ⊥
+pub finder-does-nothing : (r : FinderAnswer) → MinimizerFinderPromise rowH r onesHits onesHits → ⊥
 unfolding computes
 finder-does-nothing r p = let e : _≡_ {A = ℕ} 9 0 = ap (λ xs. getD xs 0 0) (p .left .contigs) in omega (arith, e)
 
