@@ -1,6 +1,6 @@
 // Candidate ranges: whether two join, the two as one, and where a range is written. A list of records can stand over these later.
 ghost use mathlib.Core.Path.{_≡_};
-ghost use Prim.Native.Nat.{_≤_, _<_, max};
+ghost use Prim.Native.Nat.{_≤_, _<_};
 ghost use lib.ListN.{length};
 ghost use Rattle.candidate_window.specs.Work.{rangeOf, Put};
 ghost use Rattle.rules.specs.Finder as finder;
@@ -10,12 +10,6 @@ pub struct L1Candidate {
     pub contig: u32,
     pub start: u32,
     pub end: u32,
-}
-
-fn larger(x: u32, y: u32) -> u32
-    ensures { λ r. ⌜ r ≡ max x y ⌝ }
-{
-    if x < y { y } else { x }
 }
 
 // Whether c joins the range before it: in its contig, and starting within `gap` of its end.
@@ -36,7 +30,7 @@ pub fn joined(prev: L1Candidate, c: L1Candidate) -> L1Candidate
     L1Candidate {
         contig: prev.contig,
         start: prev.start,
-        end: larger(prev.end, c.end),
+        end: base::larger(prev.end, c.end),
     }
 }
 

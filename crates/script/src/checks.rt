@@ -91,23 +91,6 @@ fn first_missing(query: &[u64], coords: &[u64], places: &mut [u32]) -> usize
     i
 }
 
-fn larger(x: u32, y: u32) -> u32
-    ensures { λ r. ⌜ (x ≤ r) × (y ≤ r) ⌝ }
-{
-    if x < y { y } else { x }
-}
-
-// The largest index, or 0: no less than each of them.
-fn largest(indexes: &[u32]) -> u32
-    ensures { λ r. ⌜ All (λ i. i ≤ r) (now (indexes .entry)) ⌝ }
-{
-    let mut most = 0;
-    for i in 0..indexes.len() {
-        most = larger(most, indexes[i]);
-    }
-    most
-}
-
 // The bits that any of the kinds has: as a number, no less than each of them.
 fn bits_of(kinds: &[u8]) -> u8
     ensures { λ r. ⌜ All (λ k. k ≤ r) (now (kinds .entry)) ⌝ }
@@ -143,7 +126,7 @@ fn first_bad_step(n: usize, indexes: &[u32], kinds: &[u8]) -> usize
     requires { ⌜ length (now indexes) ≡ length (now kinds) ⌝ }
     ensures { λ r. ⌜ r ≡ firstBadStep n (now (indexes .entry)) (now (kinds .entry)) ⌝ }
 {
-    let most = largest(indexes);
+    let most = base::largest(indexes);
     if n <= most as usize {
         return find_bad_step(n, indexes, kinds);
     }

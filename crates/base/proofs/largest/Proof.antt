@@ -1,18 +1,18 @@
--- `largest` covers the indexes: the larger of two numbers is no less than each.
+-- `base::largest` covers the numbers: the larger of two is no less than each.
 use Prim.Native.Nat.{_-_}
 use mathlib.Core.Path.{_≡_, refl}
 use lib.ListN.{length}
 use borrow.Author.Needs.{needs}
 use native.Mathlib.Omega.{arith}
 use Rattle.base.proofs.Covering.{Covering, covering-start, covering-step, covering-end}
-use Rattle.script.proofs.checks.largest.Statement.{statement}
-use Rattle.script.proofs.checks.largest.Tie as tie
+use Rattle.base.proofs.largest.Statement.{statement}
+use Rattle.base.proofs.largest.Tie as tie
 
 abbrev Inv-loop : tie.InvT-loop
-Inv-loop indexes most₀ i₀ i-end most i = Covering indexes 0 most i × (i-end ≡ length indexes)
+Inv-loop numbers most₀ i₀ i-end most i = Covering numbers 0 most i × (i-end ≡ length numbers)
 
 abbrev μ-loop : tie.MeasureT-loop
-μ-loop indexes most₀ i₀ i-end most i = i-end - i
+μ-loop numbers most₀ i₀ i-end most i = i-end - i
 
 loop-holds : tie.Need-loop-holds Inv-loop μ-loop
 loop-holds c = (covering-start _ _, refl)
@@ -35,7 +35,7 @@ loop-less c = search needs
 loop-again : tie.Need-loop-again Inv-loop μ-loop
 loop-again c =
     let l = c .before .before .before in
-    (covering-step (l .loop .inv .0) (omega arith) (c .larger .ensures .0) (c .larger .ensures .1), l .loop .inv .1)
+    (covering-step (l .loop .inv .0) (omega arith) (omega (arith, c .larger .ensures)) (omega (arith, c .larger .ensures)), l .loop .inv .1)
 
 returns : tie.Need-returns Inv-loop μ-loop
 returns c = covering-end (c .before .loop .inv .0) (omega arith) .1
