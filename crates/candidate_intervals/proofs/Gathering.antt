@@ -8,14 +8,15 @@ use native.Mathlib.Nat.{not-suc-le-zero}
 use native.Mathlib.Numerals.{add-one}
 use native.Mathlib.Omega.{arith}
 use lib.ListN.{length, getD, set, take, drop, length-append, length-map, length-drop, length-set, length-take}
-use lib.Seq.{take-suc, take-suc-set, take-at, getD-drop, length-take-le}
+use lib.Seq.{take-suc, take-suc-set, take-at, getD-drop, length-take-le, take-all}
 use borrow.Author.Tests.{lt-ltb, le-ltb}
+use Rattle.base.specs.Lists.{All}
 use Rattle.base.specs.Pick.{pick}
 use Rattle.base.specs.Sort.{sortOf}
 use Rattle.base.proofs.Sort.{length-sort}
 use Rattle.rules.specs.Lists.{sum, filter}
 use Rattle.rules.specs.Finder.{kept, keyOf}
-use Rattle.rules.proofs.FinderKept.{sum-next, keptFrom, kept-keep, kept-pass, kept-end}
+use Rattle.rules.proofs.FinderKept.{sum-next, keptFrom, kept-keep, kept-pass, kept-end, kept-all}
 use Rattle.candidate_intervals.specs.declared.intervals.Kept.{Kept}
 use Rattle.candidate_intervals.specs.Work.{Hit, hitsOf, isForward, openOf, closeOf, intervalsOf, Grouped, GroupAt, PutAll, PutKeys, Fronts, Filled, Front, Sorted, Gathered}
 
@@ -256,6 +257,30 @@ module _ {threshold : ℕ} {groups cs ss es opens₀ closes₀ : List ℕ} (a : 
       record {
         fronts = subst (λ (x : List Hit). Fronts (filter isForward x) opens closes n) all (f .fronts);
         hits-is = f .hits-is ∙ ap length all;
+      }
+
+-- ---- all hits as one group, where none is dropped
+
+module _ {groups cs ss es opens closes : List ℕ} (a : Grouped groups cs ss es opens closes) where
+  pub flat-group : GroupAt cs ss es opens closes 0 (length cs) 0
+  flat-group = record {
+    same-starts = a .same-starts;
+    same-ends = a .same-ends;
+    within = omega arith;
+    open-room = omega (arith, a .open-room);
+    close-room = omega (arith, a .close-room);
+  }
+
+  pub flat-filled : {threshold : ℕ} {opens′ closes′ : List ℕ} {r : ℕ} → All (λ g. g < threshold) groups → PutKeys cs ss es opens closes 0 (length cs) 0 opens′ closes′ r
+      → Filled threshold groups cs ss es opens′ closes′ (record { intervals = r; hits = length cs })
+  flat-filled {threshold} {opens′} {closes′} {r} short p =
+      let hits = hitsOf cs ss es in
+      let long : length hits ≡ length cs = hits-length cs ss es (a .same-starts) (a .same-ends) in
+      let kept-is : kept threshold groups hits ≡ hits = kept-all threshold groups hits short (a .all ∙ sym long) in
+      let all : take (length cs) hits ≡ kept threshold groups hits = take-all (length cs) hits (omega (arith, long)) ∙ sym kept-is in
+      record {
+        fronts = subst (λ (x : List Hit). Fronts (filter isForward x) opens′ closes′ r) all (record { many = omega (arith, p .many); opened = p .opened; closed = p .closed });
+        hits-is = sym (ap length kept-is ∙ long);
       }
 
 -- ---- the fronts sorted

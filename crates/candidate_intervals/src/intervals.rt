@@ -1,4 +1,8 @@
 // The kept intervals as two lists of keys, those of their starts and those of their ends. Empty intervals are passed over.
+ghost use mathlib.Core.Path.{_≡_};
+ghost use mathlib.Core.Bool.{true};
+ghost use Prim.Native.Nat.{_<_};
+ghost use Rattle.base.specs.Lists.{All};
 ghost use Rattle.candidate_intervals.specs.Work.{Grouped, GroupAt, PutKeys, Filled, Sorted, Gathered, Front};
 use candidate_window::hits::key_of;
 
@@ -39,8 +43,8 @@ fn put_group(
     at
 }
 
-// Puts the keys of the intervals of the groups shorter than the threshold at the fronts.
-fn fill(
+// Puts the keys of the intervals of the groups shorter than the threshold at the fronts, group by group.
+fn fill_groups(
     groups: &[u32],
     contigs: &[u32],
     starts: &[u32],
@@ -69,6 +73,35 @@ fn fill(
         hits += count;
     }
     Kept { intervals, hits }
+}
+
+// Whether each group is shorter than the threshold, which the longest tells with no branch on the others.
+fn none_dropped(groups: &[u32], threshold: u64) -> bool
+    ensures { λ r. ⌜ (r ≡ true → All (λ g. g < threshold) (now (groups .entry))) ⌝ }
+{
+    let longest = base::largest(groups);
+    (longest as u64) < threshold
+}
+
+// The same. Where no group is dropped all hits are as one group: most groups have a hit or none, so that their ends are costly to tell.
+fn fill(
+    groups: &[u32],
+    contigs: &[u32],
+    starts: &[u32],
+    ends: &[u32],
+    threshold: u64,
+    opens: &mut [u64],
+    closes: &mut [u64],
+) -> Kept
+    requires { ⌜ Grouped (now groups) (now contigs) (now starts) (now ends) (now opens) (now closes) ⌝ }
+    ensures { λ r. ⌜ Filled threshold (now (groups .entry)) (now (contigs .entry)) (now (starts .entry)) (now (ends .entry)) (now (opens .exit)) (now (closes .exit)) r ⌝ }
+{
+    if none_dropped(groups, threshold) {
+        let hits = contigs.len();
+        let intervals = put_group(contigs, starts, ends, opens, closes, 0, hits, 0);
+        return Kept { intervals, hits };
+    }
+    fill_groups(groups, contigs, starts, ends, threshold, opens, closes)
 }
 
 // Sorts the first n of each list.

@@ -8,9 +8,10 @@ use native.Mathlib.Nat.{not-suc-le-zero}
 use native.Mathlib.Numerals.{add-one}
 use native.Mathlib.Omega.{arith}
 use lib.Dec.{ltb}
-use lib.ListN.{length, take, drop, getD, length-append, length-drop, drop-of-length-le}
+use lib.ListN.{length, take, drop, getD, length-append, length-drop, drop-of-length-le, take-append-drop}
 use lib.Seq.{drop-cons, drop-drop, length-take-le}
 use borrow.Author.Tests.{lt-ltb, le-ltb}
+use Rattle.base.specs.Lists.{All}
 use Rattle.base.specs.Pick.{pick}
 use Rattle.rules.specs.Lists.{filter, sum}
 use Rattle.rules.specs.Finder.{Finder, kept, seedHits, keyOf, keysOf}
@@ -68,6 +69,15 @@ kept-length {A} threshold (g ∷ gs) hits h = one (ltb g threshold) (kept-length
         → length (pick {A = List A} t (take g hits) [] ++ kept threshold gs (drop g hits)) ≡ sum (pick {A = List ℕ} t (g ∷ []) [] ++ filter (λ g. ltb g threshold) gs)
     one true e = omega (arith, length-append (take g hits) (kept threshold gs (drop g hits)), length-take-le g hits (omega arith))
     one false e = e
+
+-- where each group is shorter than the threshold, all hits are kept
+pub kept-all : {A : Type 0} (threshold : ℕ) (groups : List ℕ) (hits : List A) → All (λ g. g < threshold) groups → sum groups ≡ length hits → kept threshold groups hits ≡ hits
+unfolding kept sum pick
+kept-all threshold [] [] short e = refl
+kept-all threshold [] (h ∷ hits) short e = absurd (omega arith)
+kept-all {A} threshold (g ∷ gs) hits short e =
+    rw (lt-ltb g threshold (short .0))
+    (ap (λ (l : List A). take g hits ++ l) (kept-all threshold gs (drop g hits) (short .1) (omega (arith, length-drop g hits))) ∙ take-append-drop g hits)
 
 -- hits as something else are kept alike
 take-map : {A B : Type 0} (f : A → B) (n : ℕ) (xs : List A) → take n (map f xs) ≡ map f (take n xs)

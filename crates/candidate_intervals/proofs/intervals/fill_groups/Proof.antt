@@ -1,12 +1,12 @@
--- `fill` puts the keys of the intervals of each kept group after those of the groups before it.
+-- `fill_groups` puts the keys of the intervals of each kept group after those of the groups before it.
 use borrow.Author.Needs.{needs}
 use Prim.Native.Nat.{_+_, _-_, _≤_}
 use native.Mathlib.Omega.{arith}
 use denote.Ref.{now}
 use lib.ListN.{length, getD}
 use Rattle.candidate_intervals.proofs.Gathering.{Filling, filling-start, filling-within, filling-group, filling-pass, filling-keep, filling-end}
-use Rattle.candidate_intervals.proofs.intervals.fill.Statement.{statement}
-use Rattle.candidate_intervals.proofs.intervals.fill.Tie as tie
+use Rattle.candidate_intervals.proofs.intervals.fill_groups.Statement.{statement}
+use Rattle.candidate_intervals.proofs.intervals.fill_groups.Tie as tie
 
 abbrev Inv-loop : tie.InvT-loop
 Inv-loop groups contigs starts ends threshold opens₀ closes₀ intervals₀ hits₀ at₀ g₀ opens closes intervals hits at g =
@@ -82,8 +82,8 @@ same-length-2 c = search needs
 returns : tie.Need-returns Inv-loop μ-loop
 returns c = filling-end (st (c .before) .pre) (c .before .loop .inv) (c .loop-test .left)
 
-pub fill-spec : {M : Type 1} → statement M
-fill-spec =
+pub fill-groups-spec : {M : Type 1} → statement M
+fill-groups-spec =
     tie.close
     (tie.spec
     Inv-loop
