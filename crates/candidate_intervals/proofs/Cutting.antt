@@ -6,6 +6,7 @@ use mathlib.Core.List.{List}
 use Prim.Native.Nat.{ℕ, _+_, _-_, _≤_, _<_, min}
 use native.Mathlib.Omega.{arith}
 use lib.ListN.{length, getD}
+use lib.Dec.{ltb}
 use borrow.Author.Tests.{lt-ltb, le-ltb}
 use Rattle.base.specs.Pick.{pick}
 use Rattle.base.specs.Lists.{Asc}
@@ -13,12 +14,7 @@ use Rattle.base.proofs.Lists.{asc-at}
 use Rattle.base.proofs.Order.{lt-or-ge, le-or-le}
 use Rattle.keys.specs.Lists.{below}
 use Rattle.keys.proofs.Searching.{below-is}
-use Rattle.candidate_intervals.specs.Cover.{nextKey}
-
-pub record Cut (xs : List ℕ) (x i : ℕ) : Type 0 where
-  pub upto : i ≤ length xs
-  pub before : 0 < i → getD xs (i - 1) 0 < x
-  pub after : i < length xs → x ≤ getD xs i 0
+use Rattle.candidate_intervals.specs.Cover.{Cut}
 
 pub cut-is : (xs : List ℕ) (x i : ℕ) → Asc xs → Cut xs x i → below x xs ≡ i
 cut-is xs x i asc c =
@@ -50,7 +46,11 @@ module _ {xs : List ℕ} {p i : ℕ} where
     pub amid-stop : getD xs i 0 ≢ p → Cut xs (p + 1) i
     amid-stop n = record { upto = a .upto; before = λ m. omega (arith, a .before m); after = λ m. omega (arith, a .after m, n) }
 
--- The next key is the lesser of the next start and the next end.
+-- the next key, where i starts and j ends are passed
+unfoldable pub nextKey : List ℕ → List ℕ → ℕ → ℕ → ℕ
+nextKey opens closes i j = pick (ltb i (length opens)) (min (getD opens i 0) (getD closes j 0)) (getD closes j 0)
+
+-- It is the lesser of the next start and the next end.
 module _ (opens closes : List ℕ) (i j : ℕ) where
   pub next-both : i < length opens → nextKey opens closes i j ≡ min (getD opens i 0) (getD closes j 0)
   unfolding nextKey pick

@@ -11,17 +11,13 @@ use Rattle.base.specs.Lists.{All, Asc}
 use Rattle.base.specs.Sort.{insert, sortOf}
 use Rattle.base.proofs.Lists.{all-index, all-append, asc-at}
 use Rattle.base.proofs.Sort.{all-sort, asc-sort, insert-front, sort-mid}
-use Rattle.candidate_intervals.specs.Cover.{eventsOf}
+use Rattle.candidate_intervals.specs.Cover.{eventsOf, left}
 
 abbrev openEvent : ℕ → ℕ
 openEvent k = k * 2 + 1
 
 abbrev closeEvent : ℕ → ℕ
 closeEvent k = k * 2
-
--- the events that are left
-abbrev pub left : List ℕ → List ℕ → ℕ → ℕ → List ℕ
-left opens closes i j = eventsOf (drop i opens) (drop j closes)
 
 all-of : (P Q : ℕ → Type 0) (f : ℕ → ℕ) → ((x : ℕ) → P x → Q (f x)) → (xs : List ℕ) → All P xs → All Q (map f xs)
 all-of P Q f g [] a = tt

@@ -11,17 +11,10 @@ use Rattle.base.proofs.Order.{lt-or-ge}
 use Rattle.rules.specs.Finder.{Candidate, joins, joined, joinAll, coveredTo}
 use Rattle.rules.proofs.FinderJoin.{join-none, join-first}
 use Rattle.rules.proofs.FinderCovered.{to-below, to-covered}
-use Rattle.candidate_window.specs.Work.{rangeOf, Put, Listed}
-use Rattle.candidate_window.proofs.Listing.{Listing, listing-join, listing-push, listing-end}
+use Rattle.candidate_window.specs.Work.{rangeOf, Put, Listing, Listed}
+use Rattle.candidate_window.proofs.Listing.{listing-join, listing-push, listing-end}
 use Rattle.candidate_intervals.specs.declared.cover.Held.{Held}
-use Rattle.candidate_intervals.specs.Cover.{Between, stretch, Kept, Holds, Extended}
-
-pub record Holding (whole rest : List Candidate) (prev : Candidate) (cs₀ ss₀ es₀ cs ss es : List ℕ) (count : ℕ) : Type 0 where
-  pub none : count ≡ 0 → (joinAll 1 rest ≡ whole) × Kept cs₀ ss₀ es₀ cs ss es
-  pub some : 0 < count → Listing 1 whole rest prev cs₀ ss₀ es₀ cs ss es (count - 1)
-  pub contigs-len : length cs ≡ length cs₀
-  pub starts-len : length ss ≡ length ss₀
-  pub ends-len : length es ≡ length es₀
+use Rattle.candidate_intervals.specs.Cover.{Between, stretch, Kept, Holds, Extended, Holding}
 
 module _ {whole : List Candidate} {cs₀ ss₀ es₀ : List ℕ} where
   -- before anything came

@@ -12,30 +12,18 @@ use lib.Dec.{eqb, leb}
 use lib.ListN.{length, getD}
 use borrow.Author.Tests.{lt-ltb, le-ltb, eq-eqb, eqb-true, le-leb}
 use Rattle.base.specs.Pick.{pick}
+use Rattle.base.specs.Lists.{hit}
+use Rattle.base.proofs.Lists.{hit-same, hit-other}
 use Rattle.base.proofs.Order.{lt-or-ge, eq-or-ne}
 use Rattle.keys.specs.Lists.{under, below}
-use Rattle.rules.specs.Finder.{Candidate, keyContig, keyAt, joins, joined, joinAll, coveredTo, coveredFrom, covered}
+use Rattle.rules.specs.Finder.{Candidate, keyContig, keyAt, joins, joined, joinAll, coveredTo, coveredFrom}
 use Rattle.rules.proofs.FinderCovered.{active-start, active-end, covered-none, covered-here, covered-move, covered-start}
 use Rattle.candidate_window.specs.Work.{rangeOf, Room}
 use Rattle.candidate_intervals.specs.declared.cover.Held.{Held}
-use Rattle.candidate_intervals.specs.Cover.{eventsOf, Intervals, nextKey, Between, stretch, Extending, Extended, Swept}
-use Rattle.candidate_intervals.proofs.Holding.{Holding, holding-start, holding-skip, holding-last, holding-none, extended-holding, cases}
-use Rattle.candidate_intervals.proofs.Cutting.{Cut, cut-is, Amid, cut-amid, amid-step, next-open-le, next-close-le, next-is}
-use Rattle.candidate_intervals.proofs.Events.{left, left-close, left-open, left-none}
-
--- all ranges
-abbrev all : ℕ → List ℕ → List ℕ → List Candidate
-all minimum opens closes = joinAll 1 (covered minimum (eventsOf opens closes))
-
--- before a position, after all keys at the last one
-pub record Sweeping (minimum : ℕ) (opens closes cs₀ ss₀ es₀ cs ss es : List ℕ) (held : Held) (key i j : ℕ) : Type 0 where
-  pub open-upto : i ≤ length opens
-  pub close-upto : j ≤ length closes
-  pub started : 0 < i → Cut opens (key + 1) i × Cut closes (key + 1) j
-  pub fresh : i ≡ 0 → j ≡ 0
-  pub holding : Holding (all minimum opens closes) (coveredFrom minimum (i - j) key (left opens closes i j)) (rangeOf (held .range)) cs₀ ss₀ es₀ cs ss es (held .count)
-  pub few : held .count ≤ i
-  pub room : (q : ℕ) → minimum ≤ i - j → joins 1 (rangeOf (held .range)) (stretch key q) ≡ false → held .count < i
+use Rattle.candidate_intervals.specs.Cover.{eventsOf, left, all, Intervals, Between, stretch, Extending, Extended, Cut, Holding, Sweeping, Swept}
+use Rattle.candidate_intervals.proofs.Holding.{holding-start, holding-skip, holding-last, holding-none, extended-holding, cases}
+use Rattle.candidate_intervals.proofs.Cutting.{cut-is, Amid, cut-amid, amid-step, nextKey, next-open-le, next-close-le, next-is}
+use Rattle.candidate_intervals.proofs.Events.{left-close, left-open, left-none}
 
 -- at a position p, after what is covered up to it was added
 pub record Added (minimum : ℕ) (opens closes cs₀ ss₀ es₀ cs ss es : List ℕ) (held : Held) (p i j : ℕ) : Type 0 where
@@ -94,6 +82,18 @@ pub not-first : {key next : ℕ} → Between key next → 0 < keyAt next
 unfolding keyContig keyAt
 not-first {key} {next} b = omega (arith, div-add-mod' key (2 ^ 32), div-add-mod' next (2 ^ 32), b .same, b .order)
 
+-- a key is passed where it is at the position
+one-if-at : (P : ℕ → Type 0) {x p k r : ℕ} → r ≡ hit x p → P k → (x ≡ p → P (k + 1)) → P (k + r)
+one-if-at P {x} {p} {k} {r} e stay pass =
+    ⊎-elim
+    (λ (q : x ≡ p).
+    let is : k + 1 ≡ k + r = omega (arith, e, ap (λ (y : ℕ). hit y p) q, hit-same p) in
+    subst P is (pass q))
+    (λ (q : x ≢ p).
+    let is : k ≡ k + r = omega (arith, e, hit-other x p q) in
+    subst P is stay)
+    (eq-or-ne x p)
+
 module _ {minimum : ℕ} {opens closes cs₀ ss₀ es₀ : List ℕ} (iv : Intervals opens closes) (positive : 0 < minimum) (rm : Room opens cs₀ ss₀ es₀) where
   pub sweeping-start : (held : Held) → held .count ≡ 0 → Sweeping minimum opens closes cs₀ ss₀ es₀ cs₀ ss₀ es₀ held 0 0 0
   sweeping-start held z = record {
@@ -117,6 +117,12 @@ module _ {minimum : ℕ} {opens closes cs₀ ss₀ es₀ : List ℕ} (iv : Inter
         let c = s .started l in
         omega (arith, iv .forward key, below-up key opens, cut-is opens (key + 1) i (iv .asc-opens) (c .0), cut-is closes (key + 1) j (iv .asc-closes) (c .1)))
         (λ (l : i ≤ 0). omega (arith, s .fresh (omega arith))) (lt-or-ge 0 i)
+
+    -- where all starts are passed
+    pub sweeping-starts : length opens ≤ i → Sweeping minimum opens closes cs₀ ss₀ es₀ cs ss es held key (length opens) j
+    sweeping-starts l =
+        let last : i ≡ length opens = omega (arith, s .open-upto) in
+        subst (λ (k : ℕ). Sweeping minimum opens closes cs₀ ss₀ es₀ cs ss es held key k j) last s
 
     pub sweeping-end : length closes ≤ j → Swept (all minimum opens closes) (length opens) cs₀ ss₀ es₀ cs ss es held
     sweeping-end l =
@@ -255,6 +261,17 @@ module _ {minimum : ℕ} {opens closes cs₀ ss₀ es₀ : List ℕ} (iv : Inter
               ap (λ (n : ℕ). coveredFrom minimum n p (left opens closes i (j + 1))) (active-end (getD closes j 0) (i - j) ∙ less);
         }
 
+    -- the next end is passed if it is at the position
+    pub closing-first : {r : ℕ} → j < length closes → r ≡ hit (getD closes j 0) p → Closing minimum opens closes p i j₀ (j + r)
+    closing-first l e = one-if-at (λ k. Closing minimum opens closes p i j₀ k) e c (closing-step l)
+
+    -- counted anew from here, and the two parts together
+    pub closing-here : Closing minimum opens closes p i j j
+    closing-here = record { opened = c .opened; closed = c .closed; grown = omega arith; same = refl }
+
+    pub closing-then : {k : ℕ} → Closing minimum opens closes p i j k → Closing minimum opens closes p i j₀ k
+    closing-then d = record { opened = c .opened; closed = d .closed; grown = omega (arith, c .grown, d .grown); same = c .same ∙ d .same }
+
     pub opening-start : Cut closes (p + 1) j → Opening minimum opens closes p j i i
     opening-start d = record {
       opened = cut-amid (c .opened);
@@ -279,6 +296,16 @@ module _ {minimum : ℕ} {opens closes cs₀ ss₀ es₀ : List ℕ} (iv : Inter
               covered-here minimum (i - j) (getD opens i 0 * 2 + 1) (left opens closes (i + 1) j) p (omega (arith, e)) ∙
               ap (λ (n : ℕ). coveredFrom minimum n p (left opens closes (i + 1) j)) (active-start (getD opens i 0) (i - j) ∙ more);
         }
+
+    -- the next start is passed if it is at the position
+    pub opening-first : {r : ℕ} → i < length opens → r ≡ hit (getD opens i 0) p → Opening minimum opens closes p j i₀ (i + r)
+    opening-first l e = one-if-at (λ k. Opening minimum opens closes p j i₀ k) e o (opening-step l)
+
+    pub opening-here : Opening minimum opens closes p j i i
+    opening-here = record { opened = o .opened; closed = o .closed; order = omega (arith, o .order, o .grown); grown = omega arith; same = refl }
+
+    pub opening-then : {k : ℕ} → Opening minimum opens closes p j i k → Opening minimum opens closes p j i₀ k
+    opening-then d = record { opened = d .opened; closed = o .closed; order = o .order; grown = omega (arith, o .grown, d .grown); same = o .same ∙ d .same }
 
   -- all keys at the position are passed
   module _ {cs ss es : List ℕ} {held : Held} {p i j₀ j i′ : ℕ} (a : Added minimum opens closes cs₀ ss₀ es₀ cs ss es held p i j₀) (c : Closing minimum opens closes p i j₀ j) (o : Opening minimum opens closes p j i i′) (d : Cut opens (p + 1) i′) where

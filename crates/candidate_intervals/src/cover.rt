@@ -3,9 +3,10 @@
 ghost use mathlib.Core.Path.{_≡_};
 ghost use Prim.Native.Nat.{_≤_, _<_, min};
 ghost use lib.ListN.{length};
+ghost use Rattle.base.specs.Lists.{hit};
 ghost use Rattle.rules.specs.Finder.{covered, joinAll};
 ghost use Rattle.candidate_window.specs.Work.{rangeOf, Room, Listed};
-ghost use Rattle.candidate_intervals.specs.Cover.{Between, stretch, nextKey, Extending, Extended, Intervals, eventsOf, Swept};
+ghost use Rattle.candidate_intervals.specs.Cover.{Between, stretch, Extending, Extended, Intervals, eventsOf, Sweeping, Swept};
 use candidate_window::candidates::L1Candidate;
 use candidate_window::candidates::joined;
 use candidate_window::candidates::joins;
@@ -19,22 +20,24 @@ pub struct Held {
     pub range: L1Candidate,
 }
 
+// How far the sweep is once all starts are passed: what it holds, the last key, and how many ends are passed.
+pub struct Passed {
+    pub held: Held,
+    pub key: u64,
+    pub ends: usize,
+}
+
 fn lesser(x: u64, y: u64) -> u64
     ensures { λ r. ⌜ r ≡ min x y ⌝ }
 {
     if x < y { x } else { y }
 }
 
-// The next key: ends are left wherever starts are.
-fn next(opens: &[u64], closes: &[u64], i: usize, j: usize) -> u64
-    requires { ⌜ j < length (now closes) ⌝ }
-    ensures { λ r. ⌜ r ≡ nextKey (now (opens .entry)) (now (closes .entry)) i j ⌝ }
+// 1 where the two are one key, else 0.
+fn one_if_same(x: u64, y: u64) -> usize
+    ensures { λ r. ⌜ (r ≡ hit x y) × (r ≤ 1) ⌝ }
 {
-    let end = closes[j];
-    if opens.len() <= i {
-        return end;
-    }
-    lesser(opens[i], end)
+    if x == y { 1 } else { 0 }
 }
 
 // The positions from a key to before the next.
@@ -83,7 +86,56 @@ fn extend(
     }
 }
 
-// Goes over the positions where an interval starts or ends: what is covered up to a position is added, then all keys there are passed.
+// Goes over the positions where an interval starts or ends, up to the last start: what is covered up to a position is added, then all keys there
+// are passed. Ends are left wherever starts are. Which of the two comes next is as good as random, so the first key of each is passed with no branch.
+fn pass_starts(
+    opens: &[u64],
+    closes: &[u64],
+    minimum: usize,
+    seqs: &mut [u32],
+    lows: &mut [u32],
+    highs: &mut [u32],
+) -> Passed
+    requires { ⌜ Intervals (now opens) (now closes) × Room (now opens) (now seqs) (now lows) (now highs) × (0 < minimum) ⌝ }
+    ensures { λ r. ⌜ Sweeping minimum (now (opens .entry)) (now (closes .entry)) (now (seqs .entry)) (now (lows .entry)) (now (highs .entry)) (now (seqs .exit)) (now (lows .exit)) (now (highs .exit)) (r .held) (r .key) (length (now (opens .entry))) (r .ends) ⌝ }
+{
+    let n = opens.len();
+    let range = L1Candidate {
+        contig: 0,
+        start: 0,
+        end: 0,
+    };
+    let mut held = Held { count: 0, range };
+    let mut key = 0;
+    let mut i = 0;
+    let mut j = 0;
+    'positions: while i < n {
+        let start = opens[i];
+        let end = closes[j];
+        let at = lesser(start, end);
+        held = extend(seqs, lows, highs, held, minimum, i - j, key, at);
+        j += one_if_same(end, at);
+        'ends: while j < n {
+            let x = closes[j];
+            if x != at {
+                break 'ends;
+            }
+            j += 1;
+        }
+        i += one_if_same(start, at);
+        'starts: while i < n {
+            let x = opens[i];
+            if x != at {
+                break 'starts;
+            }
+            i += 1;
+        }
+        key = at;
+    }
+    Passed { held, key, ends: j }
+}
+
+// Goes over all positions; past the last start only ends are left.
 fn sweep(
     opens: &[u64],
     closes: &[u64],
@@ -95,32 +147,20 @@ fn sweep(
     requires { ⌜ Intervals (now opens) (now closes) × Room (now opens) (now seqs) (now lows) (now highs) × (0 < minimum) ⌝ }
     ensures { λ r. ⌜ Swept (joinAll 1 (covered minimum (eventsOf (now (opens .entry)) (now (closes .entry))))) (length (now (opens .entry))) (now (seqs .entry)) (now (lows .entry)) (now (highs .entry)) (now (seqs .exit)) (now (lows .exit)) (now (highs .exit)) r ⌝ }
 {
-    let n = closes.len();
-    let range = L1Candidate {
-        contig: 0,
-        start: 0,
-        end: 0,
-    };
-    let mut held = Held { count: 0, range };
-    let mut key = 0;
-    let mut i = 0;
-    let mut j = 0;
+    let n = opens.len();
+    let passed = pass_starts(opens, closes, minimum, seqs, lows, highs);
+    let mut held = passed.held;
+    let mut key = passed.key;
+    let mut j = passed.ends;
     'positions: while j < n {
-        let at = next(opens, closes, i, j);
-        held = extend(seqs, lows, highs, held, minimum, i - j, key, at);
+        let at = closes[j];
+        held = extend(seqs, lows, highs, held, minimum, n - j, key, at);
         'ends: while j < n {
             let x = closes[j];
             if x != at {
                 break 'ends;
             }
             j += 1;
-        }
-        'starts: while i < n {
-            let x = opens[i];
-            if x != at {
-                break 'starts;
-            }
-            i += 1;
         }
         key = at;
     }

@@ -11,7 +11,7 @@ use Rattle.base.specs.Buffers.{over}
 use Rattle.base.proofs.Buffers.{over-push}
 use Rattle.rules.specs.Finder.{Candidate, joins, joined, joinFrom, joinAll}
 use Rattle.rules.proofs.FinderJoin.{join-none, join-first, join-end, join-in, join-out}
-use Rattle.candidate_window.specs.Work.{Put, Listed}
+use Rattle.candidate_window.specs.Work.{Put, Listing, Listed}
 
 -- one answer more in an output list
 map-snoc : {A : Type 0} (f : A → ℕ) (xs : List A) (y : A) → map f (xs ++ (y ∷ [])) ≡ map f xs ++ (f y ∷ [])
@@ -24,17 +24,6 @@ pushed f done y entry now j e n l =
     let long : length (map f done) ≡ j = length-map done f ∙ n in
     ap (λ (x : List ℕ). set x j (f y)) e ∙ ap (λ (k : ℕ). set (over (map f done) entry) k (f y)) (sym long) ∙
     over-push (map f done) entry (f y) (omega (arith, long)) ∙ ap (λ (x : List ℕ). over x entry) (sym (map-snoc f done y))
-
-pub record Listing (gap : ℕ) (whole rest : List Candidate) (prev : Candidate) (cs₀ ss₀ es₀ cs ss es : List ℕ) (count : ℕ) : Type 0 where
-  pub done : List Candidate
-  pub many : length done ≡ count
-  pub is : done ++ joinFrom gap prev rest ≡ whole
-  pub contigs : cs ≡ over (map (λ (c : Candidate). c .contig) done) cs₀
-  pub starts : ss ≡ over (map (λ (c : Candidate). c .start) done) ss₀
-  pub ends : es ≡ over (map (λ (c : Candidate). c .end) done) es₀
-  pub contigs-len : length cs ≡ length cs₀
-  pub starts-len : length ss ≡ length ss₀
-  pub ends-len : length es ≡ length es₀
 
 -- the first range is held
 pub listing-start : (gap : ℕ) (c : Candidate) (rest : List Candidate) (cs ss es : List ℕ) → Listing gap (joinAll gap (c ∷ rest)) rest c cs ss es cs ss es 0

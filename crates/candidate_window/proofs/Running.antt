@@ -12,8 +12,8 @@ use Rattle.base.proofs.Lists.{asc-at}
 use Rattle.rules.specs.Finder.{Candidate, joins, joined, joinAll, keyContig, keyAt, runRange, runRanges}
 use Rattle.rules.proofs.FinderRuns.{runsFrom, runs-next, runs-none, run-other, run-near, run-far}
 use Rattle.candidate_window.specs.declared.candidates.L1Candidate.{L1Candidate}
-use Rattle.candidate_window.specs.Work.{rangeOf, Put, Near, Judged, FirstRun, Keys, Room, AtRun, Listed}
-use Rattle.candidate_window.proofs.Listing.{Listing, listed-none, listing-start, listing-skip, listing-join, listing-push, listing-end}
+use Rattle.candidate_window.specs.Work.{rangeOf, Put, Near, Judged, FirstRun, Keys, Room, AtRun, Listed, Listing}
+use Rattle.candidate_window.proofs.Listing.{listed-none, listing-start, listing-skip, listing-join, listing-push, listing-end}
 
 -- the keys of a run are in order
 pub run-order : {keys : List ℕ} {span : ℕ} → Keys keys span → (i : ℕ) → i + span < length keys → getD keys i 0 ≤ getD keys (i + span) 0

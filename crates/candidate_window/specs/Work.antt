@@ -1,14 +1,14 @@
 -- What the parts of the work promise each other.
 use mathlib.Core.Path.{_≡_}
 use mathlib.Core.Bool.{Bool, true, false}
-use mathlib.Core.List.{List, [], map}
+use mathlib.Core.List.{List, [], _++_, map}
 use Prim.Native.Nat.{ℕ, _+_, _-_, _^_, _≤_, _<_}
 use lib.ListN.{length, getD, set, drop, replicate}
 use Rattle.base.specs.Buffers.{over}
 use Rattle.base.specs.Lists.{Asc}
 use Rattle.rules.specs.Limits.{itemLimit, minimumLimit}
 use Rattle.rules.specs.Lists.{sum}
-use Rattle.rules.specs.Finder.{Finder, Candidate, seedHits, keyContig, runRange, runRanges, minimizerFound}
+use Rattle.rules.specs.Finder.{Finder, Candidate, seedHits, keyContig, joinFrom, runRange, runRanges, minimizerFound}
 use Rattle.candidate_window.specs.declared.candidates.L1Candidate.{L1Candidate}
 use Rattle.candidate_window.specs.declared.work.Found.{Found}
 
@@ -70,6 +70,18 @@ pub record AtRun (len span : ℕ) (keys : List ℕ) (at : ℕ) (cs ss es : List 
   pub room : Room keys cs ss es
   pub within : at + span < length keys
   pub near : Near len (getD keys at 0) (getD keys (at + span) 0)
+
+-- ranges written as they end: `count` are done and stand over the fronts, and with the one that is held and what is still to come they make the whole
+pub record Listing (gap : ℕ) (whole rest : List Candidate) (prev : Candidate) (cs₀ ss₀ es₀ cs ss es : List ℕ) (count : ℕ) : Type 0 where
+  pub done : List Candidate
+  pub many : length done ≡ count
+  pub is : done ++ joinFrom gap prev rest ≡ whole
+  pub contigs : cs ≡ over (map (λ (c : Candidate). c .contig) done) cs₀
+  pub starts : ss ≡ over (map (λ (c : Candidate). c .start) done) ss₀
+  pub ends : es ≡ over (map (λ (c : Candidate). c .end) done) es₀
+  pub contigs-len : length cs ≡ length cs₀
+  pub starts-len : length ss ≡ length ss₀
+  pub ends-len : length es ≡ length es₀
 
 -- the ranges stand over the fronts of the three output lists, and r says how many they are
 pub record Listed (found : List Candidate) (cs ss es cs′ ss′ es′ : List ℕ) (r : ℕ) : Type 0 where

@@ -1,196 +1,179 @@
--- `sweep` goes from position to position: what is covered up to one is added, then its ends and its starts are passed.
+-- `sweep` goes on where all starts are passed: what is covered up to the next end is added, then the ends there are passed. The loop does not see the
+-- lists of the entry, so what it keeps is said of every sweep that stood where it began.
 use borrow.Author.Needs.{needs}
-use Prim.Native.Nat.{_+_, _-_, _<_}
-use mathlib.Core.Path.{refl}
-use mathlib.Core.Logic.{⊎-elim}
+use Prim.Native.Nat.{ℕ, _+_, _-_, _<_}
+use mathlib.Core.Path.{_≡_, sym}
+use mathlib.Core.List.{List}
 use native.Mathlib.Omega.{arith}
 use denote.Ref.{now}
-use lib.ListN.{length}
-use Rattle.candidate_intervals.proofs.Cutting.{Cut, amid-end, amid-stop}
-use Rattle.candidate_intervals.proofs.Sweeping.{Sweeping, Added, Closing, Opening, sweeping-start, sweeping-order, sweeping-end, position-extending, position-added, closing-start, closing-step, opening-start, opening-step, sweeping-again, position-passed}
+use lib.ListN.{length, getD}
+use Rattle.candidate_window.specs.Work.{Room}
+use Rattle.candidate_intervals.specs.Cover.{Cut, Sweeping}
+use Rattle.candidate_intervals.proofs.Cutting.{amid-end, amid-stop, nextKey, next-close}
+use Rattle.candidate_intervals.proofs.Sweeping.{Added, Closing, sweeping-end, position-extending, position-added, closing-start, closing-step, opening-start, sweeping-again, position-passed}
 use Rattle.candidate_intervals.proofs.cover.sweep.Statement.{statement}
 use Rattle.candidate_intervals.proofs.cover.sweep.Tie as tie
 
 abbrev Inv-ends : tie.InvT-ends
-Inv-ends opens closes minimum seqs lows highs n held key i j₀ at j =
-    Closing minimum opens closes at i j₀ j
+Inv-ends opens closes minimum seqs lows highs n held key j₀ at j =
+    Closing minimum opens closes at (length opens) j₀ j
 
 abbrev μ-ends : tie.MeasureT-ends
-μ-ends opens closes minimum seqs lows highs n held key i j₀ at j =
+μ-ends opens closes minimum seqs lows highs n held key j₀ at j =
     length closes - j
 
-abbrev Inv-starts : tie.InvT-starts
-Inv-starts opens closes minimum seqs lows highs n held key i₀ j at i =
-    Opening minimum opens closes at j i₀ i
-
-abbrev μ-starts : tie.MeasureT-starts
-μ-starts opens closes minimum seqs lows highs n held key i₀ j at i =
-    length opens - i
-
 abbrev Inv-positions : tie.InvT-positions
-Inv-positions opens closes minimum seqs₀ lows₀ highs₀ n held₀ key₀ i₀ j₀ seqs lows highs held key i j =
-    Sweeping minimum opens closes seqs₀ lows₀ highs₀ seqs lows highs held key i j
+Inv-positions opens closes minimum seqs₀ lows₀ highs₀ n held₀ key₀ j₀ seqs lows highs held key j =
+    (cs ss es : List ℕ) → Room opens cs ss es → Sweeping minimum opens closes cs ss es seqs₀ lows₀ highs₀ held₀ key₀ (length opens) j₀
+    → Sweeping minimum opens closes cs ss es seqs lows highs held key (length opens) j
 
 abbrev μ-positions : tie.MeasureT-positions
-μ-positions opens closes minimum seqs₀ lows₀ highs₀ n held₀ key₀ i₀ j₀ seqs lows highs held key i j =
-    length opens - i + (length closes - j)
+μ-positions opens closes minimum seqs₀ lows₀ highs₀ n held₀ key₀ j₀ seqs lows highs held key j =
+    length closes - j
 
--- the entry, from the outer loop's head
-abbrev st : tie.At-positions Inv-ends μ-ends Inv-starts μ-starts Inv-positions μ-positions → tie.Start Inv-ends μ-ends Inv-starts μ-starts Inv-positions μ-positions
-st l = l .before .before .before .before .before .before
+-- where all starts are passed, from the outer loop's head
+abbrev mid : tie.At-positions Inv-ends μ-ends Inv-positions μ-positions → tie.After-pass-starts Inv-ends μ-ends Inv-positions μ-positions
+mid l = l .before .before .before .before .before .before .before .before
 
--- the outer loop's head, from where what is covered was added
-abbrev head : tie.After-extend Inv-ends μ-ends Inv-starts μ-starts Inv-positions μ-positions → tie.At-positions Inv-ends μ-ends Inv-starts μ-starts Inv-positions μ-positions
-head x = x .before .before .before .before .before .before
+-- the entry, from there
+abbrev st : tie.At-positions Inv-ends μ-ends Inv-positions μ-positions → tie.Start Inv-ends μ-ends Inv-positions μ-positions
+st l = mid l .before .before .before .before .before .before .before .before .before
 
--- and that place, from the inner loops
-abbrev ext : tie.At-ends Inv-ends μ-ends Inv-starts μ-starts Inv-positions μ-positions → tie.After-extend Inv-ends μ-ends Inv-starts μ-starts Inv-positions μ-positions
+-- the outer loop's body, from where what is covered was added, and that place, from the inner loop
+abbrev body : tie.After-extend Inv-ends μ-ends Inv-positions μ-positions → tie.In-positions Inv-ends μ-ends Inv-positions μ-positions
+body x = x .before .before .before .before .before
+
+abbrev ext : tie.At-ends Inv-ends μ-ends Inv-positions μ-positions → tie.After-extend Inv-ends μ-ends Inv-positions μ-positions
 ext e = e .before .before .before .before .before .before .before
 
-added : (x : tie.After-extend Inv-ends μ-ends Inv-starts μ-starts Inv-positions μ-positions) → let l = head x in let a = st l .args in
-    Added (a .minimum) (now (a .opens)) (now (a .closes)) (now (a .seqs)) (now (a .lows)) (now (a .highs)) (x .extend .last .0) (x .extend .last .1 .0) (x .extend .last .1 .1 .0) (x .extend .result) (x .before .before .before .before .next .result) (l .positions .i) (l .positions .j)
-added x =
-    let n = x .before .before .before .before in
-    let l = head x in
+-- a sweep from other lists, where all starts are passed
+abbrev From : (l : tie.At-positions Inv-ends μ-ends Inv-positions μ-positions) (cs ss es : List ℕ) → Type 0
+From l cs ss es =
+    let a = st l .args in
+    let p = mid l .pass-starts in
+    Sweeping (a .minimum) (now (a .opens)) (now (a .closes)) cs ss es (p .last .1 .1 .1 .0) (p .last .1 .1 .1 .1 .0) (p .last .1 .1 .1 .1 .1 .0) (p .result .held) (p .result .key) (length (now (a .opens))) (p .result .ends)
+
+-- the sweep from the lists of the entry
+sweeping : (l : tie.At-positions Inv-ends μ-ends Inv-positions μ-positions) → let a = st l .args in
+    Sweeping (a .minimum) (now (a .opens)) (now (a .closes)) (now (a .seqs)) (now (a .lows)) (now (a .highs)) (l .positions .seqs) (l .positions .lows) (l .positions .highs) (l .positions .held) (l .positions .key) (length (now (a .opens))) (l .positions .j)
+sweeping l = l .positions .inv _ _ _ (st l .pre .1) (mid l .pass-starts .ensures)
+
+-- the next position is that of the next end
+abbrev pos : tie.At-positions Inv-ends μ-ends Inv-positions μ-positions → ℕ
+pos l = getD (now (st l .args .closes)) (l .positions .j) 0
+
+is-next : (l : tie.At-positions Inv-ends μ-ends Inv-positions μ-positions) → let a = st l .args in pos l ≡ nextKey (now (a .opens)) (now (a .closes)) (length (now (a .opens))) (l .positions .j)
+is-next l = let a = st l .args in sym (next-close (now (a .opens)) (now (a .closes)) (length (now (a .opens))) (l .positions .j) (omega arith))
+
+some-end : (i : tie.In-positions Inv-ends μ-ends Inv-positions μ-positions) → i .before .positions .j < length (now (st (i .before) .args .closes))
+some-end i = omega (arith, i .positions-test .taken, st (i .before) .pre .0 .parallel)
+
+added : (x : tie.After-extend Inv-ends μ-ends Inv-positions μ-positions) (cs ss es : List ℕ) → let l = body x .before in let a = st l .args in Room (now (a .opens)) cs ss es → From l cs ss es
+    → Added (a .minimum) (now (a .opens)) (now (a .closes)) cs ss es (x .extend .last .0) (x .extend .last .1 .0) (x .extend .last .1 .1 .0) (x .extend .result) (pos l) (length (now (a .opens))) (l .positions .j)
+added x cs ss es r s =
+    let l = body x .before in
     let p = st l .pre in
-    position-added (p .0) (p .2) (p .1) (l .positions .inv) (n .before .positions-test .taken) (n .next .result) (n .next .ensures) (x .extend .ensures)
+    position-added (p .0) (p .2) r (l .positions .inv cs ss es r s) (some-end (body x)) (pos l) (is-next l) (x .extend .ensures)
 
--- all ends at the position are passed
-ends-cut : (q : tie.Left-ends Inv-ends μ-ends Inv-starts μ-starts Inv-positions μ-positions) → let x = ext (q .before) in Cut (now (st (head x) .args .closes)) (x .before .before .before .before .next .result + 1) (q .before .ends .j)
-ends-cut q = let v = q .before .ends .inv .closed in ⊎-elim (λ w. amid-end v (w .left)) (λ w. amid-stop v (w .2 .taken)) (q .ends-test .came)
+-- from the lists of the entry
+added₀ : (x : tie.After-extend Inv-ends μ-ends Inv-positions μ-positions) → let l = body x .before in let a = st l .args in
+    Added (a .minimum) (now (a .opens)) (now (a .closes)) (now (a .seqs)) (now (a .lows)) (now (a .highs)) (x .extend .last .0) (x .extend .last .1 .0) (x .extend .last .1 .1 .0) (x .extend .result) (pos l) (length (now (a .opens))) (l .positions .j)
+added₀ x = let l = body x .before in added x _ _ _ (st l .pre .1) (mid l .pass-starts .ensures)
 
--- and all starts
-abbrev at-ends : tie.At-starts Inv-ends μ-ends Inv-starts μ-starts Inv-positions μ-positions → tie.At-ends Inv-ends μ-ends Inv-starts μ-starts Inv-positions μ-positions
-at-ends s = s .before .before
-
-again : (s : tie.At-starts Inv-ends μ-ends Inv-starts μ-starts Inv-positions μ-positions) → let x = ext (at-ends s) in let l = head x in let a = st l .args in let p = x .before .before .before .before .next .result in
-    Cut (now (a .opens)) (p + 1) (s .starts .i)
-    → Sweeping (a .minimum) (now (a .opens)) (now (a .closes)) (now (a .seqs)) (now (a .lows)) (now (a .highs)) (x .extend .last .0) (x .extend .last .1 .0) (x .extend .last .1 .1 .0) (x .extend .result) p (s .starts .i) (at-ends s .ends .j)
-again s d =
-    let e = at-ends s in
+again : (e : tie.At-ends Inv-ends μ-ends Inv-positions μ-positions) → let x = ext e in let l = body x .before in let a = st l .args in Cut (now (a .closes)) (pos l + 1) (e .ends .j) → (cs ss es : List ℕ) → Room (now (a .opens)) cs ss es → From l cs ss es
+    → Sweeping (a .minimum) (now (a .opens)) (now (a .closes)) cs ss es (x .extend .last .0) (x .extend .last .1 .0) (x .extend .last .1 .1 .0) (x .extend .result) (pos l) (length (now (a .opens))) (e .ends .j)
+again e d cs ss es r s =
     let x = ext e in
-    let p = st (head x) .pre in
-    sweeping-again (p .0) (p .2) (p .1) (added x) (e .ends .inv) (s .starts .inv) d
+    let p = st (body x .before) .pre in
+    let o = opening-start (p .0) (p .2) r (e .ends .inv) d in
+    sweeping-again (p .0) (p .2) r (added x cs ss es r s) (e .ends .inv) o (amid-end (o .opened) (omega arith))
 
-passed : (s : tie.At-starts Inv-ends μ-ends Inv-starts μ-starts Inv-positions μ-positions) → let x = ext (at-ends s) in let l = head x in let a = st l .args in
-    Cut (now (a .opens)) (x .before .before .before .before .next .result + 1) (s .starts .i) → l .positions .i + l .positions .j < s .starts .i + at-ends s .ends .j
-passed s d =
-    let e = at-ends s in
+passed : (e : tie.At-ends Inv-ends μ-ends Inv-positions μ-positions) → let l = body (ext e) .before in Cut (now (st l .args .closes)) (pos l + 1) (e .ends .j) → l .positions .j < e .ends .j
+passed e d =
     let x = ext e in
-    let n = x .before .before .before .before in
-    let p = st (head x) .pre in
-    position-passed (p .0) (p .2) (p .1) (added x) (e .ends .inv) (s .starts .inv) d (n .before .positions-test .taken) (n .next .ensures)
+    let l = body x .before in
+    let p = st l .pre in
+    let o = opening-start (p .0) (p .2) (p .1) (e .ends .inv) d in
+    omega (arith, position-passed (p .0) (p .2) (p .1) (added₀ x) (e .ends .inv) o (amid-end (o .opened) (omega arith)) (some-end (body x)) (is-next l))
 
-open-end : (s : tie.After-starts Inv-ends μ-ends Inv-starts μ-starts Inv-positions μ-positions) → let x = ext (at-ends (s .before)) in Cut (now (st (head x) .args .opens)) (x .before .before .before .before .next .result + 1) (s .before .starts .i)
-open-end s = amid-end (s .before .starts .inv .opened) (omega (arith, s .starts-test .left, st (head (ext (at-ends (s .before)))) .pre .0 .parallel))
+close-end : (s : tie.After-ends Inv-ends μ-ends Inv-positions μ-positions) → let l = body (ext (s .before)) .before in Cut (now (st l .args .closes)) (pos l + 1) (s .before .ends .j)
+close-end s = amid-end (s .before .ends .inv .closed) (omega (arith, s .ends-test .left, st (body (ext (s .before)) .before) .pre .0 .parallel))
 
-open-stop : (t : tie.Then2 Inv-ends μ-ends Inv-starts μ-starts Inv-positions μ-positions) → let s = t .before .before .before in let x = ext (at-ends s) in Cut (now (st (head x) .args .opens)) (x .before .before .before .before .next .result + 1) (s .starts .i)
-open-stop t = amid-stop (t .before .before .before .starts .inv .opened) (t .if2 .taken)
+close-stop : (t : tie.Then1 Inv-ends μ-ends Inv-positions μ-positions) → let e = t .before .before .before in let l = body (ext e) .before in Cut (now (st l .args .closes)) (pos l + 1) (e .ends .j)
+close-stop t = amid-stop (t .before .before .before .ends .inv .closed) (t .if1 .taken)
 
-positions-holds :
-    tie.Need-positions-holds Inv-ends μ-ends Inv-starts μ-starts Inv-positions μ-positions
-positions-holds c = let p = c .before .before .before .before .before .pre in sweeping-start (p .0) (p .2) (p .1) _ refl
+pass-starts-requires : tie.Need-pass-starts-requires Inv-ends μ-ends Inv-positions μ-positions
+pass-starts-requires c κs = search needs
 
-next-requires :
-    tie.Need-next-requires Inv-ends μ-ends Inv-starts μ-starts Inv-positions μ-positions
-next-requires c κs = search needs
+positions-holds : tie.Need-positions-holds Inv-ends μ-ends Inv-positions μ-positions
+positions-holds c = λ cs ss es r s. s
 
-sub-extend : tie.Need-sub-extend Inv-ends μ-ends Inv-starts μ-starts Inv-positions μ-positions
-sub-extend c = let l = c .before .before .before .before .before in let p = st l .pre in sweeping-order (p .0) (p .2) (p .1) (l .positions .inv)
+mul-at : tie.Need-mul-at Inv-ends μ-ends Inv-positions μ-positions
+mul-at c = search needs
 
-extend-requires :
-    tie.Need-extend-requires Inv-ends μ-ends Inv-starts μ-starts Inv-positions μ-positions
+shared-slice-read-at : tie.Need-shared-slice-read-at Inv-ends μ-ends Inv-positions μ-positions
+shared-slice-read-at c = some-end (c .before)
+
+sub-extend : tie.Need-sub-extend Inv-ends μ-ends Inv-positions μ-positions
+sub-extend c = search needs
+
+extend-requires : tie.Need-extend-requires Inv-ends μ-ends Inv-positions μ-positions
 extend-requires c κs =
-    let n = c .before .before .before in
-    let l = n .before .before in
+    let i = c .before .before .before .before in
+    let l = i .before in
     let p = st l .pre in
-    position-extending (p .0) (p .2) (p .1) (l .positions .inv) (n .before .positions-test .taken) (n .next .result) (n .next .ensures)
+    position-extending (p .0) (p .2) (p .1) (sweeping l) (some-end i) (pos l) (is-next l)
 
-ends-holds : tie.Need-ends-holds Inv-ends μ-ends Inv-starts μ-starts Inv-positions μ-positions
+ends-holds : tie.Need-ends-holds Inv-ends μ-ends Inv-positions μ-positions
 ends-holds c =
     let x = c .before .before .before .before .before .before in
-    let p = st (head x) .pre in
-    closing-start (p .0) (p .2) (p .1) (added x)
+    let p = st (body x .before) .pre in
+    closing-start (p .0) (p .2) (p .1) (added₀ x)
 
-mul-x : tie.Need-mul-x Inv-ends μ-ends Inv-starts μ-starts Inv-positions μ-positions
-mul-x c = search needs
+mul-x : tie.Need-mul-x Inv-ends μ-ends Inv-positions μ-positions
+mul-x c = omega (arith, c .ends-test .taken, st (body (ext (c .before)) .before) .pre .0 .few)
 
-shared-slice-read-x :
-    tie.Need-shared-slice-read-x Inv-ends μ-ends Inv-starts μ-starts Inv-positions μ-positions
-shared-slice-read-x c = search needs
+shared-slice-read-x : tie.Need-shared-slice-read-x Inv-ends μ-ends Inv-positions μ-positions
+shared-slice-read-x c = omega (arith, c .before .ends-test .taken, st (body (ext (c .before .before)) .before) .pre .0 .parallel)
 
-add-j : tie.Need-add-j Inv-ends μ-ends Inv-starts μ-starts Inv-positions μ-positions
-add-j c = search needs
+add-j : tie.Need-add-j Inv-ends μ-ends Inv-positions μ-positions
+add-j c = omega (arith, c .before .before .ends-test .taken, st (body (ext (c .before .before .before)) .before) .pre .0 .few)
 
-ends-less : tie.Need-ends-less Inv-ends μ-ends Inv-starts μ-starts Inv-positions μ-positions
-ends-less c = search needs
+ends-less : tie.Need-ends-less Inv-ends μ-ends Inv-positions μ-positions
+ends-less c = omega (arith, c .before .before .ends-test .taken, st (body (ext (c .before .before .before)) .before) .pre .0 .parallel)
 
-ends-again : tie.Need-ends-again Inv-ends μ-ends Inv-starts μ-starts Inv-positions μ-positions
+ends-again : tie.Need-ends-again Inv-ends μ-ends Inv-positions μ-positions
 ends-again c =
     let i = c .before .before in
-    let p = st (head (ext (i .before))) .pre in
-    closing-step (p .0) (p .2) (p .1) (i .before .ends .inv) (i .ends-test .taken) (c .if1 .left)
+    let p = st (body (ext (i .before)) .before) .pre in
+    closing-step (p .0) (p .2) (p .1) (i .before .ends .inv) (omega (arith, i .ends-test .taken, p .0 .parallel)) (c .if1 .left)
 
-starts-holds : tie.Need-starts-holds Inv-ends μ-ends Inv-starts μ-starts Inv-positions μ-positions
-starts-holds c =
-    let e = c .before in
-    let p = st (head (ext e)) .pre in
-    opening-start (p .0) (p .2) (p .1) (e .ends .inv) (ends-cut c)
+positions-less : tie.Need-positions-less Inv-ends μ-ends Inv-positions μ-positions
+positions-less c = omega (arith, passed (c .before) (close-end c), some-end (body (ext (c .before))))
 
-mul-x-2 : tie.Need-mul-x-2 Inv-ends μ-ends Inv-starts μ-starts Inv-positions μ-positions
-mul-x-2 c = search needs
+positions-again : tie.Need-positions-again Inv-ends μ-ends Inv-positions μ-positions
+positions-again c = again (c .before) (close-end c)
 
-shared-slice-read-x-2 :
-    tie.Need-shared-slice-read-x-2 Inv-ends μ-ends Inv-starts μ-starts Inv-positions μ-positions
-shared-slice-read-x-2 c = omega (arith, c .before .starts-test .taken, st (head (ext (at-ends (c .before .before)))) .pre .0 .parallel)
+positions-less-2 : tie.Need-positions-less-2 Inv-ends μ-ends Inv-positions μ-positions
+positions-less-2 c = let e = c .before .before .before in omega (arith, passed e (close-stop c), some-end (body (ext e)))
 
-add-i : tie.Need-add-i Inv-ends μ-ends Inv-starts μ-starts Inv-positions μ-positions
-add-i c = search needs
+positions-again-2 : tie.Need-positions-again-2 Inv-ends μ-ends Inv-positions μ-positions
+positions-again-2 c = again (c .before .before .before) (close-stop c)
 
-starts-less : tie.Need-starts-less Inv-ends μ-ends Inv-starts μ-starts Inv-positions μ-positions
-starts-less c = search needs
+same-length : tie.Need-same-length Inv-ends μ-ends Inv-positions μ-positions
+same-length c = sweeping (c .before) .holding .contigs-len
 
-starts-again : tie.Need-starts-again Inv-ends μ-ends Inv-starts μ-starts Inv-positions μ-positions
-starts-again c =
-    let i = c .before .before in
-    let p = st (head (ext (at-ends (i .before)))) .pre in
-    opening-step (p .0) (p .2) (p .1) (i .before .starts .inv) (omega (arith, i .starts-test .taken, p .0 .parallel)) (c .if2 .left)
+same-length-2 : tie.Need-same-length-2 Inv-ends μ-ends Inv-positions μ-positions
+same-length-2 c = sweeping (c .before) .holding .starts-len
 
-positions-less :
-    tie.Need-positions-less Inv-ends μ-ends Inv-starts μ-starts Inv-positions μ-positions
-positions-less c =
-    let s = c .before in
-    let l = head (ext (at-ends s)) in
-    omega (arith, passed s (open-end c), open-end c .upto, at-ends s .ends .inv .closed .upto, l .positions .inv .open-upto, l .positions .inv .close-upto)
+same-length-3 : tie.Need-same-length-3 Inv-ends μ-ends Inv-positions μ-positions
+same-length-3 c = sweeping (c .before) .holding .ends-len
 
-positions-again :
-    tie.Need-positions-again Inv-ends μ-ends Inv-starts μ-starts Inv-positions μ-positions
-positions-again c = again (c .before) (open-end c)
-
-positions-less-2 :
-    tie.Need-positions-less-2 Inv-ends μ-ends Inv-starts μ-starts Inv-positions μ-positions
-positions-less-2 c =
-    let s = c .before .before .before in
-    let l = head (ext (at-ends s)) in
-    omega (arith, passed s (open-stop c), open-stop c .upto, at-ends s .ends .inv .closed .upto, l .positions .inv .open-upto, l .positions .inv .close-upto)
-
-positions-again-2 :
-    tie.Need-positions-again-2 Inv-ends μ-ends Inv-starts μ-starts Inv-positions μ-positions
-positions-again-2 c = again (c .before .before .before) (open-stop c)
-
-same-length : tie.Need-same-length Inv-ends μ-ends Inv-starts μ-starts Inv-positions μ-positions
-same-length c = search needs
-
-same-length-2 :
-    tie.Need-same-length-2 Inv-ends μ-ends Inv-starts μ-starts Inv-positions μ-positions
-same-length-2 c = search needs
-
-same-length-3 :
-    tie.Need-same-length-3 Inv-ends μ-ends Inv-starts μ-starts Inv-positions μ-positions
-same-length-3 c = search needs
-
-returns : tie.Need-returns Inv-ends μ-ends Inv-starts μ-starts Inv-positions μ-positions
-returns c = let l = c .before in let p = st l .pre in sweeping-end (p .0) (p .2) (p .1) (l .positions .inv) (c .positions-test .left)
+returns : tie.Need-returns Inv-ends μ-ends Inv-positions μ-positions
+returns c =
+    let l = c .before in
+    let p = st l .pre in
+    sweeping-end (p .0) (p .2) (p .1) (sweeping l) (omega (arith, c .positions-test .left, p .0 .parallel))
 
 pub sweep-spec : {M : Type 1} → statement M
 sweep-spec =
@@ -198,12 +181,12 @@ sweep-spec =
     (tie.spec
     Inv-ends
     μ-ends
-    Inv-starts
-    μ-starts
     Inv-positions
     μ-positions
+    pass-starts-requires
     positions-holds
-    next-requires
+    mul-at
+    shared-slice-read-at
     sub-extend
     extend-requires
     ends-holds
@@ -212,12 +195,6 @@ sweep-spec =
     add-j
     ends-less
     ends-again
-    starts-holds
-    mul-x-2
-    shared-slice-read-x-2
-    add-i
-    starts-less
-    starts-again
     positions-less
     positions-again
     positions-less-2
