@@ -14,7 +14,7 @@ use Rattle.base.proofs.Sort.{asc-sort, times-sort}
 use Rattle.base.proofs.Lists.{strict-asc}
 use Rattle.rules.specs.Lists.{member}
 use Rattle.rules.specs.Score.{union, ascending, numberOf}
-use Rattle.rules.proofs.Score.{member-times, strict-same, strict-ascending, member-ascending, strict-union, length-union, count-most}
+use Rattle.rules.proofs.Score.{member-times, strict-same, strict-ascending, member-ascending, strict-union, length-union, number-most}
 use Rattle.keys.specs.Lists.{below, dedupOf, Fronted}
 use Rattle.keys.proofs.Repeats.{strict-dedup, times-dedup}
 use Rattle.keys.proofs.Numbers.{below-number}
@@ -36,11 +36,7 @@ union-distinct query hashes =
     strict-same (dedupOf (sortOf (query ++ hashes))) (ascending (query ++ hashes)) (strict-dedup (sortOf (query ++ hashes)) (asc-sort (query ++ hashes))) (strict-ascending (query ++ hashes))
     (λ h. member-distinct h (query ++ hashes) ∙ sym (member-ascending h (query ++ hashes)))
 
--- what is counted for a hash is its number, and no number passes the coordinates
-
-pub number-most : (cs : List ℕ) (h : ℕ) → numberOf cs h ≤ length cs
-unfolding numberOf
-number-most cs h = count-most (λ c. ltb c h) cs
+-- what is counted for a hash is its number
 
 pub counted : (cs xs : List ℕ) (y h i : ℕ) → y ≡ below h cs → h ≡ getD xs i 0 → i < length xs → y ≡ getD (map (numberOf cs) xs) i 0
 counted cs xs y h i e f l = e ∙ below-number h cs ∙ ap (numberOf cs) f ∙ sym (getD-map (numberOf cs) xs i l)

@@ -18,7 +18,7 @@ use Rattle.rules.specs.Checks.{ceil64}
 use Rattle.rules.specs.Score.{numberOf}
 use Rattle.rules.specs.Sweep.{Sweep}
 use Rattle.rules.specs.Interval.{Interval, intervalsOf, taken, kmersPerStart}
-use Rattle.rules.proofs.Score.{none-below, number-later, number-skip}
+use Rattle.rules.proofs.Score.{none-below, number-later, number-skip, number-up, number-most}
 use Rattle.rules.proofs.IntervalTaken.{takenFrom, takenTo, taken-part, intervals-part}
 use Rattle.keys.specs.Lists.{below}
 use Rattle.keys.proofs.Numbers.{below-number}
@@ -63,15 +63,6 @@ front-below v (x ∷ xs) r =
     let e : numberOf (x ∷ xs) v ≡ 0 = omega (arith, number-skip x v xs l, none-number v x xs l (r .0)) in
     rw e tt) (lt-or-ge x v)
 
-number-up : (v w : ℕ) (xs : List ℕ) → v ≤ w → Asc xs → (numberOf xs v ≤ numberOf xs w) × (numberOf xs w ≤ length xs)
-number-up v w [] l r = (omega (arith, none-below v [] tt, none-below w [] tt), omega (arith, none-below w [] tt))
-number-up v w (x ∷ xs) l r =
-    let h = number-up v w xs l (r .1) in
-    ⊎-elim (λ (m : x < w).
-    ⊎-elim (λ (n : x < v). (omega (arith, h .0, number-later x v xs n, number-later x w xs m), omega (arith, h .1, number-later x w xs m)))
-    (λ (n : v ≤ x). (omega (arith, number-skip x v xs n, none-number v x xs n (r .0)), omega (arith, h .1, number-later x w xs m))) (lt-or-ge x v))
-    (λ (m : w ≤ x). (omega (arith, number-skip x v xs (omega arith), none-number v x xs (omega arith) (r .0)), omega (arith, number-skip x w xs m, none-number w x xs m (r .0)))) (lt-or-ge x w)
-
 -- ---- the part
 
 module _ {query hashes starts ends : List ℕ} {settings : Settings} {range : Range} {from to : ℕ} (k : Ready query hashes starts ends settings range from to) where
@@ -88,7 +79,7 @@ module _ {query hashes starts ends : List ℕ} {settings : Settings} {range : Ra
   to-number = k .to-is ∙ below-number hi starts
 
   pub bounds-up : (from ≤ to) × (to ≤ length hashes)
-  bounds-up = let h = number-up lo hi starts (omega (arith, k .forward)) (k .starts-asc) in (omega (arith, h .0, from-number, to-number), omega (arith, h .1, to-number, k .same-starts))
+  bounds-up = (omega (arith, number-up starts lo hi (omega (arith, k .forward)), from-number, to-number), omega (arith, number-most starts hi, to-number, k .same-starts))
 
   abbrev cut : List ℕ → List ℕ
   cut xs = take (to - from) (drop from xs)

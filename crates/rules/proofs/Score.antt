@@ -16,7 +16,7 @@ use Rattle.base.specs.Pick.{pick}
 use Rattle.base.specs.Lists.{All, StrictAsc, times}
 use Rattle.base.specs.Sort.{sortOf}
 use Rattle.base.proofs.Lists.{all-map, hit-same, hit-other}
-use Rattle.base.proofs.Order.{eq-or-ne}
+use Rattle.base.proofs.Order.{eq-or-ne, lt-or-ge}
 use Rattle.base.proofs.Sort.{times-sort, strict-unique}
 use Rattle.rules.specs.Lists.{member, count, filter}
 use Rattle.rules.specs.Score.{add, ascending, union, inBoth, score, numberOf, pivotHash}
@@ -283,6 +283,20 @@ number-order [] r g h m l = absurd (false≢true m)
 number-order (c ∷ cs) r g h m l =
     ⊎-elim (λ (e : g ≡ c). rw (e, number-first c cs r) (omega (arith, number-later c h cs (rw e at l))))
     (λ k. omega (arith, number-later c g cs (k .0), number-later c h cs (omega (arith, k .0)), number-order cs (r .1) g h (k .1) l)) (first-or-later c cs r g m)
+
+-- a greater hash has no lesser number, and no number passes the coordinates
+pub number-up : (cs : List ℕ) (g h : ℕ) → g ≤ h → numberOf cs g ≤ numberOf cs h
+unfolding numberOf count
+number-up [] g h l = omega arith
+number-up (c ∷ cs) g h l =
+    let rest = number-up cs g h l in
+    ⊎-elim (λ (a : c < g). omega (arith, number-later c g cs a, number-later c h cs (omega arith)))
+    (λ (a : g ≤ c).
+    ⊎-elim (λ (b : c < h). omega (arith, number-skip c g cs a, number-later c h cs b)) (λ (b : h ≤ c). omega (arith, number-skip c g cs a, number-skip c h cs b)) (lt-or-ge c h)) (lt-or-ge c g)
+
+pub number-most : (cs : List ℕ) (h : ℕ) → numberOf cs h ≤ length cs
+unfolding numberOf
+number-most cs h = count-most (λ c. ltb c h) cs
 
 -- ---- the score by coordinate numbers
 

@@ -5,7 +5,8 @@ use borrow.Author.Needs.{needs}
 use denote.Ref.{now}
 use lib.ListN.{length}
 use Rattle.rules.specs.Score.{numberOf}
-use Rattle.script.proofs.Reaching.{passes, stops, number-most}
+use Rattle.rules.proofs.Score.{number-most}
+use Rattle.script.proofs.Reaching.{passes, stops}
 use Rattle.script.proofs.walk.reach.Statement.{statement}
 use Rattle.script.proofs.walk.reach.Tie as tie
 
