@@ -23,28 +23,25 @@ module _ (v w : Verdict) where
   unfolding orElse
   or-skip z e h = rw (e, h)
 
+-- a refusal is not fine
+pub no-fine : (r : Refusal) → No r ≡ Fine → ⊥
+no-fine r e = let z : _≡_ {A = ℕ} 0 1 = cc in omega arith
+
 pub or-fine : (v w : Verdict) → orElse v w ≡ Fine → (v ≡ Fine) × (w ≡ Fine)
 unfolding orElse
 or-fine Fine w e = (refl, e)
-or-fine (No r) w e = absurd (let z : _≡_ {A = ℕ} 0 1 = cc in omega arith)
+or-fine (No r) w e = absurd (no-fine r e)
 
 -- a test that refuses where it holds, and one that refuses where it does not
-module _ (t : Bool) (r : Refusal) (w : Verdict) where
-  pub stop-fine : pick t (No r) w ≡ Fine → (t ≡ false) × (w ≡ Fine)
-  unfolding pick
-  stop-fine e = go t e
-    where
-      go : (t : Bool) → pick t (No r) w ≡ Fine → (t ≡ false) × (w ≡ Fine)
-      go true e = absurd (let z : _≡_ {A = ℕ} 0 1 = cc in omega arith)
-      go false e = (refl, e)
+pub stop-fine : (t : Bool) (r : Refusal) (w : Verdict) → pick t (No r) w ≡ Fine → (t ≡ false) × (w ≡ Fine)
+unfolding pick
+stop-fine true r w e = absurd (no-fine r e)
+stop-fine false r w e = (refl, e)
 
-  pub skip-fine : pick t w (No r) ≡ Fine → (t ≡ true) × (w ≡ Fine)
-  unfolding pick
-  skip-fine e = go t e
-    where
-      go : (t : Bool) → pick t w (No r) ≡ Fine → (t ≡ true) × (w ≡ Fine)
-      go true e = (refl, e)
-      go false e = absurd (let z : _≡_ {A = ℕ} 0 1 = cc in omega arith)
+pub skip-fine : (t : Bool) (r : Refusal) (w : Verdict) → pick t w (No r) ≡ Fine → (t ≡ true) × (w ≡ Fine)
+unfolding pick
+skip-fine true r w e = (refl, e)
+skip-fine false r w e = absurd (no-fine r e)
 
 -- the same by the numbers of the test, which are to be written out where these are cited
 module _ (a b : ℕ) (r : Refusal) (w : Verdict) where

@@ -142,9 +142,6 @@ module _ {query coords places : List ℕ} {at i : ℕ} (w : Finding query coords
 pub placed-to : {query coords places : List ℕ} {m n : ℕ} → m ≡ n → Placed query coords places m → Placed query coords places n
 placed-to {query} {coords} {places} e p = subst (λ (k : ℕ). Placed query coords places k) e p
 
-pub no-fine : (r : Refusal) → No r ≡ Fine → ⊥
-no-fine r e = absurd (let z : _≡_ {A = ℕ} 0 1 = cc in omega arith)
-
 -- The verdict is the first refusal in number order.
 abbrev pub sizes : Script → Verdict
 sizes s = scriptSizes (length (s .query)) (length (s .coords)) (length (s .indexes)) (length (s .kinds))
