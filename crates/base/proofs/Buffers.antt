@@ -2,12 +2,12 @@
 -- that is done meets the part that is kept. Assumes nothing.
 use Prim.Native.Nat.{ℕ, zero, suc, _+_, _-_, _<_, _≤_}
 use mathlib.Core.Path.{_≡_, refl, sym, ap, _∙_}
-use mathlib.Core.List.{List, [], _∷_, _++_, append-nil}
+use mathlib.Core.List.{List, [], _∷_, _++_, append-nil, map, map-append}
 use native.Mathlib.Nat.{not-suc-le-zero, le-of-suc-le-suc}
 use native.Mathlib.Numerals.{add-one}
 use native.Mathlib.Omega.{arith}
 use borrow.Author.Fill.{fill-none, fill-more}
-use lib.ListN.{length, set, take, drop, getD, replicate, length-append, length-drop, length-replicate, getD-replicate, take-append-drop, List·getD-append}
+use lib.ListN.{length, set, take, drop, getD, replicate, length-append, length-drop, length-map, length-replicate, getD-replicate, take-append-drop, List·getD-append}
 use lib.Seq.{getD-append-add, getD-drop, take-at, drop-at, take-length, drop-length, drop-cons, set-append-seam, append-snoc}
 use Rattle.base.specs.Buffers.{zeroed, over}
 
@@ -105,6 +105,15 @@ module _ {A : Type 0} (answers entry : List A) where
       let more : length (answers ++ (y ∷ [])) ≡ suc n = omega (arith, length-append answers (y ∷ [])) in
       ap (λ (l : List A). set (answers ++ l) n y) (drop-cons entry n y h) ∙ set-append-seam answers (getD entry n y) (drop (suc n) entry) y
       ∙ sym (append-snoc answers y (drop (suc n) entry)) ∙ ap (λ (k : ℕ). (answers ++ (y ∷ [])) ++ drop k entry) (sym more)
+
+-- one answer more, where each is told by one thing that is done
+pub pushed : {A B : Type 0} (f : A → B) (done : List A) (y : A) (entry now : List B) (j : ℕ) → now ≡ over (map f done) entry → length done ≡ j → j < length now
+    → set now j (f y) ≡ over (map f (done ++ (y ∷ []))) entry
+pushed {A} {B} f done y entry now j e n l =
+    let long : length (map f done) ≡ j = length-map done f ∙ n in
+    let room : length now ≡ j + (length entry - j) = ap length e ∙ simp (length-append, length-drop, long) in
+    ap (λ (x : List B). set x j (f y)) e ∙ ap (λ (k : ℕ). set (over (map f done) entry) k (f y)) (sym long) ∙
+    over-push (map f done) entry (f y) (omega (arith, long)) ∙ ap (λ (x : List B). over x entry) (sym (map-append f done (y ∷ [])))
 
 -- Where the whole list of answers is known, and a loop writes the one at i in turn i: before that turn the buffer is `take i answers ++ drop i entry`.
 module _ {A : Type 0} where

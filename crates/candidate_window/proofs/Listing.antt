@@ -5,25 +5,13 @@ use mathlib.Core.Bool.{true, false}
 use mathlib.Core.List.{List, [], _∷_, _++_, map}
 use Prim.Native.Nat.{ℕ, _+_, _<_}
 use native.Mathlib.Omega.{arith}
-use lib.ListN.{length, set, length-append, length-map, length-set}
+use lib.ListN.{length, length-append, length-set}
 use lib.Seq.{append-snoc}
 use Rattle.base.specs.Buffers.{over}
-use Rattle.base.proofs.Buffers.{over-push}
+use Rattle.base.proofs.Buffers.{pushed}
 use Rattle.rules.specs.Finder.{Candidate, joins, joined, joinFrom, joinAll}
 use Rattle.rules.proofs.FinderJoin.{join-none, join-first, join-end, join-in, join-out}
 use Rattle.candidate_window.specs.Work.{Put, Listing, Listed}
-
--- one answer more in an output list
-map-snoc : {A : Type 0} (f : A → ℕ) (xs : List A) (y : A) → map f (xs ++ (y ∷ [])) ≡ map f xs ++ (f y ∷ [])
-map-snoc f [] y = refl
-map-snoc f (x ∷ xs) y = ap (λ (l : List ℕ). f x ∷ l) (map-snoc f xs y)
-
-pushed : {A : Type 0} (f : A → ℕ) (done : List A) (y : A) (entry now : List ℕ) (j : ℕ) → now ≡ over (map f done) entry → length done ≡ j → j < length entry
-    → set now j (f y) ≡ over (map f (done ++ (y ∷ []))) entry
-pushed f done y entry now j e n l =
-    let long : length (map f done) ≡ j = length-map done f ∙ n in
-    ap (λ (x : List ℕ). set x j (f y)) e ∙ ap (λ (k : ℕ). set (over (map f done) entry) k (f y)) (sym long) ∙
-    over-push (map f done) entry (f y) (omega (arith, long)) ∙ ap (λ (x : List ℕ). over x entry) (sym (map-snoc f done y))
 
 -- the first range is held
 pub listing-start : (gap : ℕ) (c : Candidate) (rest : List Candidate) (cs ss es : List ℕ) → Listing gap (joinAll gap (c ∷ rest)) rest c cs ss es cs ss es 0
@@ -74,9 +62,9 @@ module _ {gap : ℕ} {whole rest : List Candidate} {prev : Candidate} {cs₀ ss�
       is =
           append-snoc (l .done) prev (joinFrom gap c rest′) ∙
           ap (λ (x : List Candidate). l .done ++ x) (sym (ap (joinFrom gap prev) e ∙ join-out gap prev c rest′ j)) ∙ l .is;
-      contigs = p .contigs ∙ pushed (λ (x : Candidate). x .contig) (l .done) prev cs₀ cs count (l .contigs) (l .many) in-contigs;
-      starts = p .starts ∙ pushed (λ (x : Candidate). x .start) (l .done) prev ss₀ ss count (l .starts) (l .many) in-starts;
-      ends = p .ends ∙ pushed (λ (x : Candidate). x .end) (l .done) prev es₀ es count (l .ends) (l .many) in-ends;
+      contigs = p .contigs ∙ pushed (λ (x : Candidate). x .contig) (l .done) prev cs₀ cs count (l .contigs) (l .many) (omega (arith, l .contigs-len));
+      starts = p .starts ∙ pushed (λ (x : Candidate). x .start) (l .done) prev ss₀ ss count (l .starts) (l .many) (omega (arith, l .starts-len));
+      ends = p .ends ∙ pushed (λ (x : Candidate). x .end) (l .done) prev es₀ es count (l .ends) (l .many) (omega (arith, l .ends-len));
       contigs-len = ap length (p .contigs) ∙ length-set cs count (prev .contig) ∙ l .contigs-len;
       starts-len = ap length (p .starts) ∙ length-set ss count (prev .start) ∙ l .starts-len;
       ends-len = ap length (p .ends) ∙ length-set es count (prev .end) ∙ l .ends-len;
@@ -90,12 +78,12 @@ module _ {gap : ℕ} {whole rest : List Candidate} {prev : Candidate} {cs₀ ss�
         record {
           many = sym (ap (λ (k : ℕ). k + 1) (l .many)) ∙ sym (length-append (l .done) (prev ∷ [])) ∙ ap length all;
           contigs =
-              p .contigs ∙ pushed (λ (x : Candidate). x .contig) (l .done) prev cs₀ cs count (l .contigs) (l .many) in-contigs ∙
+              p .contigs ∙ pushed (λ (x : Candidate). x .contig) (l .done) prev cs₀ cs count (l .contigs) (l .many) (omega (arith, l .contigs-len)) ∙
               ap (λ (x : List Candidate). over (map (λ (c : Candidate). c .contig) x) cs₀) all;
           starts =
-              p .starts ∙ pushed (λ (x : Candidate). x .start) (l .done) prev ss₀ ss count (l .starts) (l .many) in-starts ∙
+              p .starts ∙ pushed (λ (x : Candidate). x .start) (l .done) prev ss₀ ss count (l .starts) (l .many) (omega (arith, l .starts-len)) ∙
               ap (λ (x : List Candidate). over (map (λ (c : Candidate). c .start) x) ss₀) all;
           ends =
-              p .ends ∙ pushed (λ (x : Candidate). x .end) (l .done) prev es₀ es count (l .ends) (l .many) in-ends ∙
+              p .ends ∙ pushed (λ (x : Candidate). x .end) (l .done) prev es₀ es count (l .ends) (l .many) (omega (arith, l .ends-len)) ∙
               ap (λ (x : List Candidate). over (map (λ (c : Candidate). c .end) x) es₀) all;
         }

@@ -6,7 +6,7 @@ use native.Mathlib.Omega.{arith}
 use lib.ListN.{length, set, take, drop, length-append, length-map}
 use lib.Seq.{append-snoc}
 use Rattle.base.specs.Buffers.{over}
-use Rattle.base.proofs.Buffers.{length-over, over-push}
+use Rattle.base.proofs.Buffers.{length-over, pushed}
 use Rattle.rules.specs.Limits.{jobLimit}
 use Rattle.rules.specs.Job.{number, numberAt}
 use Rattle.job.specs.Units.{unitsFrom, Stands, Got, Met, Column, columnOf}
@@ -35,10 +35,6 @@ pub record Turn {A : Type 0} (f : List ℕ → A) (job : List ℕ) (tag n offset
   pub bytes : numberAt offset k (take n (drop p job)) ≡ number (take k (drop (p + offset) job))
   pub less : length (unitsFrom n tag job c′) < length (unitsFrom n tag job c)
   pub step : (v : A) → v ≡ f (take n (drop p job)) → Filling f job tag n offset k entry (set now i v) c′ (i + 1)
-
-map-snoc : {A B : Type 0} (f : A → B) (xs : List A) (y : A) → map f (xs ++ (y ∷ [])) ≡ map f xs ++ (f y ∷ [])
-map-snoc f [] y = refl
-map-snoc {A} {B} f (x ∷ xs) y = ap (λ (l : List B). f x ∷ l) (map-snoc f xs y)
 
 module _ {A : Type 0} {f : List ℕ → A} {job : List ℕ} {tag n offset k : ℕ} {entry : List A} where
   pub filling-start : Column job tag n offset k (length entry) → Filling f job tag n offset k entry entry (record { at = 0; end = 0 }) 0
@@ -72,17 +68,13 @@ module _ {A : Type 0} {f : List ℕ → A} {job : List ℕ} {tag n offset k : �
       filling-step v e =
           let u = take n (drop p job) in
           let d = g .done in
-          let long : length (map f d) ≡ i = length-map d f ∙ g .many in
           record {
             column = g .column;
             done = d ++ (u ∷ []);
             many = omega (arith, length-append d (u ∷ []), g .many);
             stands = m .stands;
             rest = append-snoc d u (unitsFrom n tag job c′) ∙ ap (λ (us : List (List ℕ)). d ++ us) (sym (m .is)) ∙ g .rest;
-            is =
-                ap (λ (l : List A). set l i v) (g .is) ∙ ap (λ (j : ℕ). set (over (map f d) entry) j v) (sym long) ∙
-                ap (λ (w : A). set (over (map f d) entry) (length (map f d)) w) e ∙ over-push (map f d) entry (f u) (omega (arith, long, filling-room)) ∙
-                ap (λ (l : List A). over l entry) (sym (map-snoc f d u));
+            is = ap (λ (w : A). set now i w) e ∙ pushed f d u entry now i (g .is) (g .many) (omega (arith, filling-room, filling-length));
           }
 
     -- what the search for the next unit found: one,

@@ -4,19 +4,18 @@
 use mathlib.Core.Path.{_≡_, refl, sym, ap, _∙_, subst}
 use mathlib.Core.Logic.{⊎-elim, _≢_}
 use mathlib.Core.Bool.{Bool, true, false}
-use mathlib.Core.List.{List, [], _∷_, _++_, map, append-nil}
+use mathlib.Core.List.{List, [], _∷_, _++_, append-nil}
 use Prim.Native.Nat.{ℕ, _+_, _-_, _^_, _≤_, _<_}
 use native.Mathlib.Numerals.{add-one}
 use native.Mathlib.Omega.{arith}
 use lib.Dec.{eqb}
-use lib.ListN.{length, getD, set, drop, length-set, length-append, length-drop, length-map, drop-of-length-le}
+use lib.ListN.{length, getD, set, drop, length-set, length-append, drop-of-length-le}
 use lib.Seq.{getD-set-same, getD-set-other, drop-cons, append-snoc}
 use borrow.Author.Tests.{eq-eqb, ne-eqb}
 use Rattle.base.specs.Pick.{pick}
-use Rattle.base.specs.Buffers.{over}
 use Rattle.base.proofs.Lists.{all-at}
 use Rattle.base.proofs.Order.{eq-or-ne}
-use Rattle.base.proofs.Buffers.{over-push}
+use Rattle.base.proofs.Buffers.{pushed}
 use Rattle.rules.specs.Script.{Look, stepped, lastOr}
 use Rattle.rules.specs.Moves.{insertRef, deleteRef, moved, movedBy, slideLook}
 use Rattle.rules.specs.Moves as moves
@@ -72,19 +71,6 @@ last-snoc : (d y : Look) (xs : List Look) → lastOr d (xs ++ (y ∷ [])) ≡ y
 unfolding lastOr
 last-snoc d y [] = refl
 last-snoc d y (x ∷ xs) = last-snoc x y xs
-
-map-snoc : (f : Look → ℕ) (xs : List Look) (y : Look) → map f (xs ++ (y ∷ [])) ≡ map f xs ++ (f y ∷ [])
-map-snoc f [] y = refl
-map-snoc f (x ∷ xs) y = ap (λ (l : List ℕ). f x ∷ l) (map-snoc f xs y)
-
--- one answer more in an output list
-pushed : (f : Look → ℕ) (done : List Look) (y : Look) (entry now : List ℕ) (j : ℕ) → now ≡ over (map f done) entry → length done ≡ j → j < length now
-    → set now j (f y) ≡ over (map f (done ++ (y ∷ []))) entry
-pushed f done y entry now j e n l =
-    let long : length (map f done) ≡ j = length-map done f ∙ n in
-    let room : length now ≡ j + (length entry - j) = ap length e ∙ simp (length-append, length-drop, long) in
-    ap (λ (x : List ℕ). set x j (f y)) e ∙ ap (λ (k : ℕ). set (over (map f done) entry) k (f y)) (sym long) ∙
-    over-push (map f done) entry (f y) (omega (arith, long)) ∙ ap (λ (x : List ℕ). over x entry) (sym (map-snoc f done y))
 
 looks-next : (ms : List Bool) (is ks : List ℕ) (j : ℕ) (s : moves.Slide) → j < length is → j < length ks
     → looksFrom ms (drop j is) (drop j ks) s
