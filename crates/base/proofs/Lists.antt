@@ -1,12 +1,12 @@
--- `All` and the two orders by the index, and how often a number stands in a list: by recursion on the list. Assumes nothing.
+-- `All`, maps, zeros and the two orders by the index, and how often a number stands in a list: by recursion on the list. Assumes nothing.
 use mathlib.Core.Path.{_≡_, refl, sym, ap, _∙_}
 use mathlib.Core.Logic.{⊎-elim, _≢_}
-use mathlib.Core.List.{List, [], _∷_, _++_}
+use mathlib.Core.List.{List, [], _∷_, _++_, map}
 use Prim.Native.Nat.{ℕ, zero, suc, _+_, _≤_, _<_}
 use native.Mathlib.Nat.{le-of-suc-le-suc, not-suc-le-zero, eq-or-lt-of-le}
 use native.Mathlib.Numerals.{add-one}
 use native.Mathlib.Omega.{arith}
-use lib.ListN.{length, getD}
+use lib.ListN.{length, getD, take, drop, replicate}
 use borrow.Author.Tests.{eq-eqb, ne-eqb}
 use Rattle.base.specs.Lists.{All, Ordered, Asc, StrictAsc, hit, times}
 use Rattle.base.proofs.Order.{eq-or-ne}
@@ -29,6 +29,40 @@ all-map P Q f (x ∷ xs) a = (f x (a .0), all-map P Q f xs (a .1))
 pub all-append : (P : ℕ → Type 0) (xs ys : List ℕ) → All P xs → All P ys → All P (xs ++ ys)
 all-append P [] ys a b = b
 all-append P (x ∷ xs) ys a b = (a .0, all-append P xs ys (a .1) b)
+
+pub all-take : (P : ℕ → Type 0) (n : ℕ) (xs : List ℕ) → All P xs → All P (take n xs)
+all-take P zero xs a = tt
+all-take P (suc n) [] a = tt
+all-take P (suc n) (x ∷ xs) a = (a .0, all-take P n xs (a .1))
+
+pub all-drop : (P : ℕ → Type 0) (n : ℕ) (xs : List ℕ) → All P xs → All P (drop n xs)
+all-drop P zero xs a = a
+all-drop P (suc n) [] a = tt
+all-drop P (suc n) (x ∷ xs) a = all-drop P n xs (a .1)
+
+-- what a map makes, by the index, and of a part
+
+module _ {A B : Type 0} (f : A → B) where
+  pub map-at : (xs : List A) (i : ℕ) (x : A) (y : B) → i < length xs → getD (map f xs) i y ≡ f (getD xs i x)
+  map-at [] i x y l = absurd (not-suc-le-zero l)
+  map-at (z ∷ xs) zero x y l = refl
+  map-at (z ∷ xs) (suc i) x y l = map-at xs i x y (le-of-suc-le-suc l)
+
+  pub map-take : (n : ℕ) (xs : List A) → map f (take n xs) ≡ take n (map f xs)
+  map-take zero xs = refl
+  map-take (suc n) [] = refl
+  map-take (suc n) (x ∷ xs) = ap (λ (ys : List B). f x ∷ ys) (map-take n xs)
+
+  pub map-drop : (n : ℕ) (xs : List A) → map f (drop n xs) ≡ drop n (map f xs)
+  map-drop zero xs = refl
+  map-drop (suc n) [] = refl
+  map-drop (suc n) (x ∷ xs) = map-drop n xs
+
+-- zeros, past their end too
+pub zeros-at : (n i : ℕ) → getD {A = ℕ} (replicate n 0) i 0 ≡ 0
+zeros-at zero i = refl
+zeros-at (suc n) zero = refl
+zeros-at (suc n) (suc i) = zeros-at n i
 
 -- an order by the index, and by neighbours
 
@@ -79,6 +113,9 @@ hit-same v = rw (eq-eqb v v refl)
 pub hit-other : (v x : ℕ) → (v ≡ x → ⊥) → hit v x ≡ 0
 unfolding hit
 hit-other v x n = rw (ne-eqb v x n)
+
+pub hit-le : (v x : ℕ) → hit v x ≤ 1
+hit-le v x = ⊎-elim (λ (e : v ≡ x). rw e (omega (arith, hit-same x))) (λ (n : v ≢ x). omega (arith, hit-other v x n)) (eq-or-ne v x)
 
 pub times-append : (v : ℕ) (xs ys : List ℕ) → times v (xs ++ ys) ≡ times v xs + times v ys
 unfolding times

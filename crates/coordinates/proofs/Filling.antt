@@ -1,8 +1,7 @@
 -- A loop that writes the answer at i in turn i over the whole of a buffer that is as long as the answers. Assumes nothing.
 use mathlib.Core.Path.{_≡_, refl, sym, ap, _∙_}
-use mathlib.Core.List.{List, [], _∷_, _++_, append-nil, map}
-use Prim.Native.Nat.{ℕ, zero, suc, _+_, _-_, _≤_, _<_}
-use native.Mathlib.Nat.{not-suc-le-zero, le-of-suc-le-suc}
+use mathlib.Core.List.{List, _∷_, _++_, append-nil}
+use Prim.Native.Nat.{ℕ, suc, _+_, _-_, _≤_, _<_}
 use native.Mathlib.Omega.{arith}
 use lib.ListN.{length, getD, take, drop, set, length-append, length-take, length-drop, length-set, drop-of-length-le, length-map, List·getD-append}
 use lib.Seq.{drop-cons, take-length, getD-append-add}
@@ -44,8 +43,3 @@ pub joined-second : (xs ys : List ℕ) (i : ℕ) → length xs ≤ i → getD ys
 joined-second xs ys i l =
     let e : length xs + (i - length xs) ≡ i = omega arith in
     sym (getD-append-add xs ys (i - length xs) 0) ∙ ap (λ (n : ℕ). getD (xs ++ ys) n 0) e
-
-pub getD-map : (f : ℕ → ℕ) (xs : List ℕ) (i : ℕ) → i < length xs → getD (map f xs) i 0 ≡ f (getD xs i 0)
-getD-map f [] i l = absurd (not-suc-le-zero l)
-getD-map f (x ∷ xs) zero l = refl
-getD-map f (x ∷ xs) (suc i) l = getD-map f xs i (le-of-suc-le-suc l)

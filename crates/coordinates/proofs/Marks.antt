@@ -9,19 +9,18 @@ use native.Mathlib.Numerals.{add-one}
 use native.Mathlib.Omega.{arith}
 use lib.Dec.{eqb}
 use lib.ListN.{length, getD, set, replicate, length-set, length-map, length-replicate, getD-replicate, take, drop, drop-of-length-le}
-use lib.Seq.{getD-set-same, getD-set-other, ext-getD, drop-cons}
+use lib.Seq.{getD-set-same, getD-set-other, ext-getD, drop-cons, take-at}
 use borrow.Author.Tests.{eq-eqb, ne-eqb}
 use Rattle.base.specs.Pick.{pick}
 use Rattle.base.specs.Lists.{All, StrictAsc}
 use Rattle.base.specs.Buffers.{over}
 use Rattle.base.proofs.Buffers.{length-over, over-in, over-out}
-use Rattle.base.proofs.Lists.{all-at, all-map}
+use Rattle.base.proofs.Lists.{all-at, all-map, map-at, map-take}
 use Rattle.base.proofs.Order.{lt-or-ge, eq-or-ne}
 use Rattle.rules.specs.Lists.{member}
 use Rattle.rules.specs.Score.{union, numberOf}
 use Rattle.rules.proofs.Score.{at-number, number-at, number-fits, member-all, strict-union, union-left, length-union}
 use Rattle.coordinates.specs.Coordinates.{flags, numbers, marked, Numbered, Answered}
-use Rattle.coordinates.proofs.Filling.{getD-map}
 
 pub length-marked : (ws is : List ℕ) → length (marked ws is) ≡ length ws
 unfolding marked
@@ -80,19 +79,17 @@ module _ (coords : List ℕ) (strict : StrictAsc coords) where
       marked-at zs is i (omega arith)
       ∙ ⊎-elim
       (λ (b : i < length coords).
-      rw (member-numbers query a i b, getD-replicate {A = ℕ} m i 0 0 (omega arith)) (sym (over-in fs zs 0 i (omega arith) ∙ getD-map (λ c. pick (member c query) 1 0) coords i b)))
+      rw (member-numbers query a i b, getD-replicate {A = ℕ} m i 0 0 (omega arith)) (sym (over-in fs zs 0 i (omega arith) ∙ map-at (λ c. pick (member c query) 1 0) coords i 0 0 b)))
       (λ (b : length coords ≤ i). rw (member-past is (numbers-fit query a) i b) (sym (over-out fs zs 0 i (omega arith)))) (lt-or-ge i (length coords)))
 
 -- the call: the query's numbers stand first
 
-take-map : (f : ℕ → ℕ) (xs ys : List ℕ) → take (length xs) (map f (xs ++ ys)) ≡ map f xs
-take-map f [] ys = refl
-take-map f (x ∷ xs) ys = ap (λ (t : List ℕ). f x ∷ t) (take-map f xs ys)
-
 module _ (query hashes : List ℕ) {coords : List ℕ} {r : ℕ} (n : Numbered query hashes coords r) where
   query-numbers : take (length query) coords ≡ map (numberOf (union query hashes)) query
   unfolding numbers
-  query-numbers = ap (take (length query)) (n .are) ∙ take-map (numberOf (union query hashes)) query hashes
+  query-numbers =
+      let f = numberOf (union query hashes) in
+      ap (take (length query)) (n .are) ∙ sym (map-take f (length query) (query ++ hashes)) ∙ ap (map f) (take-at query hashes (length query) refl)
 
   query-in : All (λ h. member h (union query hashes) ≡ true) query
   query-in = member-all (λ h. member h (union query hashes) ≡ true) query (λ h m. union-left h query hashes m)

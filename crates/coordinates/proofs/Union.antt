@@ -11,7 +11,7 @@ use lib.Seq.{take-at}
 use Rattle.base.specs.Lists.{Asc, times}
 use Rattle.base.specs.Sort.{sortOf}
 use Rattle.base.proofs.Sort.{asc-sort, times-sort}
-use Rattle.base.proofs.Lists.{strict-asc}
+use Rattle.base.proofs.Lists.{strict-asc, map-at}
 use Rattle.rules.specs.Lists.{member}
 use Rattle.rules.specs.Score.{union, ascending, numberOf}
 use Rattle.rules.proofs.Score.{member-times, strict-same, strict-ascending, member-ascending, strict-union, length-union, number-most}
@@ -19,7 +19,6 @@ use Rattle.keys.specs.Lists.{below, dedupOf, Fronted}
 use Rattle.keys.proofs.Repeats.{strict-dedup, times-dedup}
 use Rattle.keys.proofs.Numbers.{below-number}
 use Rattle.coordinates.specs.Coordinates.{numbers, Numbered}
-use Rattle.coordinates.proofs.Filling.{getD-map}
 
 -- a number stands in a list once at least where it stands in the list without repeats
 once : (n : ℕ) → ltb 0 (min 1 n) ≡ ltb 0 n
@@ -39,7 +38,7 @@ union-distinct query hashes =
 -- what is counted for a hash is its number
 
 pub counted : (cs xs : List ℕ) (y h i : ℕ) → y ≡ below h cs → h ≡ getD xs i 0 → i < length xs → y ≡ getD (map (numberOf cs) xs) i 0
-counted cs xs y h i e f l = e ∙ below-number h cs ∙ ap (numberOf cs) f ∙ sym (getD-map (numberOf cs) xs i l)
+counted cs xs y h i e f l = e ∙ below-number h cs ∙ ap (numberOf cs) f ∙ sym (map-at (numberOf cs) xs i 0 0 l)
 
 pub counted-most : (cs : List ℕ) (y h : ℕ) → y ≡ below h cs → y ≤ length cs
 counted-most cs y h e = omega (arith, below-number h cs, number-most cs h)

@@ -13,14 +13,13 @@ use lib.Seq.{getD-set-same, getD-set-other, ext-getD}
 use borrow.Author.Tests.{eq-eqb, ne-eqb, ltb-true}
 use Rattle.base.specs.Pick.{pick}
 use Rattle.base.specs.Lists.{times}
-use Rattle.base.proofs.Lists.{times-find}
+use Rattle.base.proofs.Lists.{times-find, map-at}
 use Rattle.base.proofs.Order.{lt-or-ge, eq-or-ne}
 use Rattle.rules.specs.Lists.{member}
 use Rattle.rules.specs.Score.{union, numberOf}
 use Rattle.rules.proofs.Score.{member-ascending, member-times, getD-member, strict-union}
 use Rattle.coordinates.specs.Coordinates.{numbers, Numbered}
 use Rattle.coordinates.specs.Packed.{placeOf, hashOf, Places}
-use Rattle.coordinates.proofs.Filling.{getD-map}
 use Rattle.coordinates.proofs.Ranks.{number-least, number-next, number-largest}
 
 -- the hashes ascend through the first n keys
@@ -162,7 +161,7 @@ module _ (query hashes keys : List ℕ) (p : Places query hashes keys) where
         (λ i l.
         let m : i < length xs = omega (arith, w .long, p .many) in
         let t = p .placed .all i (omega arith) in
-        ap (λ (k : ℕ). getD coords k 0) (sym (t .2)) ∙ w .written all-rising (t .0) (omega (arith, t .1)) ∙ ap (λ (k : ℕ). f (getD xs k 0)) (t .2) ∙ sym (getD-map f xs i m))
+        ap (λ (k : ℕ). getD coords k 0) (sym (t .2)) ∙ w .written all-rising (t .0) (omega (arith, t .1)) ∙ ap (λ (k : ℕ). f (getD xs k 0)) (t .2) ∙ sym (map-at f xs i 0 0 m))
 
     pub walk-end : Numbered query hashes coords (c + 1)
     walk-end = record { many = walk-many; are = walk-numbers }

@@ -10,7 +10,7 @@ use lib.ListN.{length, take, drop, replicate, length-take, length-drop, length-r
 use Rattle.base.specs.Lists.{All, Asc}
 use Rattle.base.specs.declared.Range.{Range}
 use Rattle.base.specs.declared.Settings.{Settings}
-use Rattle.base.proofs.Lists.{all-map}
+use Rattle.base.proofs.Lists.{all-map, all-take, all-drop}
 use Rattle.base.proofs.Order.{lt-or-ge}
 use Rattle.rules.specs.Limits.{queryLimit, itemLimit}
 use Rattle.rules.specs.Lists.{filter}
@@ -26,16 +26,6 @@ use Rattle.interval_work.specs.Work.{Zero, Part, Lent, Clear, Ready, Of}
 use Rattle.interval_events.proofs.Gathering.{take-behind}
 
 -- ---- parts of lists
-
-all-take : (P : ℕ → Type 0) (n : ℕ) (xs : List ℕ) → All P xs → All P (take n xs)
-all-take P zero xs a = tt
-all-take P (suc n) [] a = tt
-all-take P (suc n) (x ∷ xs) a = (a .0, all-take P n xs (a .1))
-
-all-drop : (P : ℕ → Type 0) (n : ℕ) (xs : List ℕ) → All P xs → All P (drop n xs)
-all-drop P zero xs a = a
-all-drop P (suc n) [] a = tt
-all-drop P (suc n) (x ∷ xs) a = all-drop P n xs (a .1)
 
 asc-take : (n : ℕ) (xs : List ℕ) → Asc xs → Asc (take n xs)
 asc-take zero xs r = tt

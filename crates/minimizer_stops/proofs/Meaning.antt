@@ -3,10 +3,11 @@
 use mathlib.Core.Path.{_≡_, refl, sym, ap, _∙_}
 use mathlib.Core.Bool.{Bool, true}
 use mathlib.Core.List.{List, [], _∷_, map}
-use Prim.Native.Nat.{ℕ, zero, suc, _+_, _-_, _<_}
+use Prim.Native.Nat.{ℕ, _+_, _-_, _<_}
 use native.Mathlib.Omega.{arith}
 use lib.ListN.{length, take, drop, length-map}
 use Rattle.base.specs.Lists.{All, StrictAsc}
+use Rattle.base.proofs.Lists.{all-take, all-drop, map-take, map-drop}
 use Rattle.rules.specs.Lists.{member}
 use Rattle.rules.specs.Score.{numberOf, score}
 use Rattle.rules.specs.Moves.{marks}
@@ -19,27 +20,6 @@ use Rattle.sweep.proofs.Numbers.{score-numbers}
 use Rattle.minimizer_stops.specs.declared.Swept.{Swept}
 use Rattle.minimizer_stops.specs.Stops.{sites, scoredFor, stopsOf, Whole}
 use Rattle.minimizer_stops.proofs.Positions.{same-length, same-position, same-first, same-stops}
-
--- a part of the items is among the coordinates where all are
-all-take : (P : ℕ → Type 0) (n : ℕ) (xs : List ℕ) → All P xs → All P (take n xs)
-all-take P zero xs a = tt
-all-take P (suc n) [] a = tt
-all-take P (suc n) (x ∷ xs) a = (a .0, all-take P n xs (a .1))
-
-all-drop : (P : ℕ → Type 0) (n : ℕ) (xs : List ℕ) → All P xs → All P (drop n xs)
-all-drop P zero xs a = a
-all-drop P (suc n) [] a = tt
-all-drop P (suc n) (x ∷ xs) a = all-drop P n xs (a .1)
-
-map-take : (f : ℕ → ℕ) (n : ℕ) (xs : List ℕ) → take n (map f xs) ≡ map f (take n xs)
-map-take f zero xs = refl
-map-take f (suc n) [] = refl
-map-take f (suc n) (x ∷ xs) = ap (λ (ys : List ℕ). f x ∷ ys) (map-take f n xs)
-
-map-drop : (f : ℕ → ℕ) (n : ℕ) (xs : List ℕ) → drop n (map f xs) ≡ map f (drop n xs)
-map-drop f zero xs = refl
-map-drop f (suc n) [] = refl
-map-drop f (suc n) (x ∷ xs) = map-drop f n xs
 
 abbrev hashes : List Item → List ℕ
 hashes items = map (λ (x : Item). x .hash) items
@@ -66,7 +46,7 @@ module _ (query coords : List ℕ) (items : List Item) (rq : StrictAsc query) (r
   score-part b e =
       ap (score (asked ms))
       (map-part (λ (x : Item). x .hash) (itemsOf ns ps) b e ∙ ap (λ (xs : List ℕ). take (e - b) (drop b xs)) (items-hashes ns ps parallel) ∙
-      ap (take (e - b)) (map-drop (numberOf coords) b (hashes items)) ∙ map-take (numberOf coords) (e - b) (drop b (hashes items))) ∙
+      ap (take (e - b)) (sym (map-drop (numberOf coords) b (hashes items))) ∙ sym (map-take (numberOf coords) (e - b) (drop b (hashes items)))) ∙
       score-numbers query coords (take (e - b) (drop b (hashes items))) rq rc sub (all-take (λ h. member h coords ≡ true) (e - b) (drop b (hashes items)) (all-drop (λ h. member h coords ≡ true) b (hashes items) inside)) some ∙
       sym (ap (score query) (map-part (λ (x : Item). x .hash) items b e))
 

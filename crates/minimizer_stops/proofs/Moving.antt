@@ -2,7 +2,7 @@
 -- and W is at least 1, and the next start is farther exactly where the nearer distance is above 0. Assumes nothing.
 use mathlib.Core.Path.{_≡_, refl, sym, ap, _∙_}
 use mathlib.Core.Logic.{⊎-elim, _≢_}
-use mathlib.Core.Bool.{Bool, true, false, _&&_, and-eq-true-iff}
+use mathlib.Core.Bool.{true, false, _&&_, and-eq-true-iff}
 use mathlib.Core.List.{List}
 use Prim.Native.Nat.{ℕ, _+_, _-_, _^_, _≤_, _<_, min}
 use native.Mathlib.Omega.{arith}
@@ -13,6 +13,7 @@ use Rattle.base.specs.Pick.{pick}
 use Rattle.base.specs.Lists.{Asc}
 use Rattle.base.proofs.Order.{lt-or-ge}
 use Rattle.base.proofs.Lists.{asc-at}
+use Rattle.base.proofs.Checks.{pick-le}
 use Rattle.rules.specs.Minimizer.{Item, position, goesOn, toBegin, toEnd, nextStop, moves}
 use Rattle.rules.specs.Minimizer as rules
 use Rattle.rules.proofs.MinimizerPositions.{positions}
@@ -83,11 +84,6 @@ module _ (ps : List ℕ) (w : ℕ) (t : rules.Stop) where
 
   -- ---- what is known of it
 
-  pick-one : (x : Bool) → pick {A = ℕ} x 1 0 ≤ 1
-  unfolding pick
-  pick-one true = omega arith
-  pick-one false = omega arith
-
   module _ (u : rules.Stop) (is : u ≡ nextStop w (sites ps) t) where
     b-is : u .b ≡ t .b + pick {A = ℕ} (eqb (min near far) near) 1 0
     unfolding nextStop
@@ -125,12 +121,12 @@ module _ (ps : List ℕ) (w : ℕ) (t : rules.Stop) where
         (λ (k : t .e ≤ t .b + 1). absurd (omega (arith, asc-at ps asc (t .e) (t .b + 1) k (omega arith), p-is))) (lt-or-ge (t .b + 1) (t .e)))
         (λ (h : far ≤ near).
         let y : u .e ≡ t .e + 1 = e-is ∙ rw (eq-eqb (min near far) far (omega arith)) in
-        omega (arith, b-is, pick-one (eqb (min near far) near))) (lt-or-ge near far)
+        omega (arith, b-is, pick-le (eqb (min near far) near))) (lt-or-ge near far)
 
 pub next-step : (ps ns : List ℕ) (w : ℕ) (t u : Stop) → stopOf u ≡ nextStop w (sites ps) (stopOf t) → t .b < t .e → t .e < length ns → Step ns t u
 next-step ps ns w t u is order inside =
-    let x = pick-one ps w (stopOf t) (eqb (min (near ps w (stopOf t)) (far ps w (stopOf t))) (near ps w (stopOf t))) in
-    let y = pick-one ps w (stopOf t) (eqb (min (near ps w (stopOf t)) (far ps w (stopOf t))) (far ps w (stopOf t))) in
+    let x = pick-le (eqb (min (near ps w (stopOf t)) (far ps w (stopOf t))) (near ps w (stopOf t))) in
+    let y = pick-le (eqb (min (near ps w (stopOf t)) (far ps w (stopOf t))) (far ps w (stopOf t))) in
     let b = b-is ps w (stopOf t) (stopOf u) is in
     let e = e-is ps w (stopOf t) (stopOf u) is in
     record {

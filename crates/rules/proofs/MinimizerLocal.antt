@@ -1,7 +1,7 @@
 -- The local items are one part of the items handed in, where positions never descend: from the count of positions below range start to the count of those
 -- below range end + length. So the code may take them as two parts of the hashes and the positions.
 -- Assumes nothing.
-use Prim.Native.Nat.{ℕ, zero, suc, _+_, _-_, _≤_, _<_}
+use Prim.Native.Nat.{ℕ, suc, _+_, _-_, _≤_, _<_}
 use mathlib.Core.Path.{_≡_, refl, ap, _∙_}
 use mathlib.Core.Logic.{⊎-elim}
 use mathlib.Core.Bool.{Bool, _&&_}
@@ -13,7 +13,7 @@ use lib.Dec.{ltb, leb}
 use borrow.Author.Tests.{lt-ltb, le-ltb, le-leb, lt-leb}
 use Rattle.base.specs.Pick.{pick}
 use Rattle.base.specs.Lists.{Asc, StrictAsc}
-use Rattle.base.proofs.Lists.{strict-at, strict-asc, strict-steps}
+use Rattle.base.proofs.Lists.{strict-at, strict-asc, strict-steps, map-take, map-drop}
 use Rattle.rules.specs.Lists.{filter}
 use Rattle.rules.specs.Sweep.{Sweep}
 use Rattle.rules.specs.Minimizer.{Item, itemsOf, isLocal, localItems, position, part, below}
@@ -55,16 +55,6 @@ items-hashes [] [] e = refl
 items-hashes [] (p ∷ ps) e = absurd (omega arith)
 items-hashes (h ∷ hs) [] e = absurd (omega arith)
 items-hashes (h ∷ hs) (p ∷ ps) e = ap (λ (xs : List ℕ). h ∷ xs) (items-hashes hs ps (omega arith))
-
-map-take : (f : Item → ℕ) (n : ℕ) (items : List Item) → map f (take n items) ≡ take n (map f items)
-map-take f zero items = refl
-map-take f (suc n) [] = refl
-map-take f (suc n) (x ∷ xs) = ap (λ (ys : List ℕ). f x ∷ ys) (map-take f n xs)
-
-map-drop : (f : Item → ℕ) (n : ℕ) (items : List Item) → map f (drop n items) ≡ drop n (map f items)
-map-drop f zero items = refl
-map-drop f (suc n) [] = refl
-map-drop f (suc n) (x ∷ xs) = map-drop f n xs
 
 -- the hashes, or the positions, of a part
 pub map-part : (f : Item → ℕ) (items : List Item) (b e : ℕ) → map f (part items b e) ≡ take (e - b) (drop b (map f items))

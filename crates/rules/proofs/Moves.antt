@@ -14,6 +14,7 @@ use borrow.Author.Tests.{ltb-true, ltb-false, leb-true, leb-false, eqb-true, eqb
 use Rattle.base.specs.Pick.{pick}
 use Rattle.base.specs.Nearest.{LastBelow, NoneBelow, FirstFrom, NoneFrom}
 use Rattle.base.specs.Counting.{count, Same, Bump}
+use Rattle.base.proofs.Checks.{pick-le}
 use Rattle.base.proofs.Order.{lt-or-ge}
 use Rattle.base.proofs.Nearest.{last-same, first-same}
 use Rattle.base.proofs.Counting.{count-next}
@@ -25,12 +26,8 @@ use Rattle.rules.proofs.Ranks.{in-query-union, in-query-meet, out-query
 -- ---- flags and tests as numbers
 
 pub mark-le : (ms : List Bool) (i : ℕ) → mark ms i ≤ 1
-unfolding mark pick
-mark-le ms i = go (getD ms i false)
-  where
-    go : (b : Bool) → pick b 1 0 ≤ 1
-    go true = omega arith
-    go false = omega arith
+unfolding mark
+mark-le ms i = pick-le (getD ms i false)
 
 pub has-le : (cs : List ℕ) (i : ℕ) → has cs i ≤ 1
 unfolding has
@@ -197,7 +194,7 @@ active-none : (cs : List ℕ) (i : ℕ) → isActive cs i ≡ false → getD cs 
 unfolding isActive
 active-none cs i e = omega (arith, ltb-false 0 (getD cs i 0) e)
 
-none-has : (cs : List ℕ) (i : ℕ) → getD cs i 0 ≡ 0 → has cs i ≡ 0
+pub none-has : (cs : List ℕ) (i : ℕ) → getD cs i 0 ≡ 0 → has cs i ≡ 0
 unfolding has
 none-has cs i e = omega arith
 

@@ -7,7 +7,7 @@ use native.Mathlib.Nat.{le-of-suc-le-suc, not-suc-le-zero, suc-add, zero-add}
 use native.Mathlib.Omega.{arith}
 use mathlib.Core.Path.{_≡_, refl, sym, ap, subst, _∙_}
 use mathlib.Core.Logic.{_⊎_, inl, inr, ⊎-elim, _≢_}
-use mathlib.Core.Bool.{Bool, true, false, _||_, _&&_, false≢true, and-eq-true-iff, and-true, and-false, or-false}
+use mathlib.Core.Bool.{Bool, true, false, _||_, _&&_, false≢true, and-eq-true-iff, and-true, and-false, or-false, or-self-left}
 use mathlib.Core.List.{List, [], _∷_, _++_}
 use lib.ListN.{length, take, getD, length-append, length-take}
 use lib.Dec.{ltb, leb, eqb}
@@ -122,10 +122,6 @@ or-swap true true c = refl
 or-swap true false c = refl
 or-swap false b c = refl
 
-or-twice : (a b : Bool) → (a || b) ≡ (a || (a || b))
-or-twice true b = refl
-or-twice false b = refl
-
 member-add : (h g : ℕ) (xs : List ℕ) → member h (add g xs) ≡ (eqb h g || member h xs)
 unfolding member add pick
 member-add h g [] = refl
@@ -133,7 +129,7 @@ member-add h g (x ∷ xs) =
     ⊎-elim (λ (e : ltb g x ≡ true). rw e)
     (λ (e : ltb g x ≡ false).
     rw e
-    (⊎-elim (λ (f : eqb g x ≡ true). rw (f, eqb-true g x f) (or-twice (eqb h x) (member h xs)))
+    (⊎-elim (λ (f : eqb g x ≡ true). rw (f, eqb-true g x f) (sym (or-self-left (eqb h x) (member h xs))))
     (λ (f : eqb g x ≡ false). rw (f, member-add h g xs) (or-swap (eqb h x) (eqb h g) (member h xs))) (cases (eqb g x)))) (cases (ltb g x))
 
 pub member-ascending : (h : ℕ) (xs : List ℕ) → member h (ascending xs) ≡ member h xs

@@ -1,15 +1,16 @@
 -- A script by the Rust's moves answers what a script by hashes answers: the first state holds the union's k-th smallest, and each move keeps it.
 use mathlib.Core.Path.{_≡_, refl, sym, ap, _∙_, subst}
-use mathlib.Core.Bool.{Bool, true, false, _||_}
+use mathlib.Core.Bool.{true, or-false}
 use mathlib.Core.List.{List, [], _∷_, _++_, map}
-use Prim.Native.Nat.{ℕ, zero, suc, _+_, _-_, _≤_, _<_, min}
+use Prim.Native.Nat.{ℕ, suc, _+_, _-_, _≤_, _<_, min}
 use native.Mathlib.Nat.{not-suc-le-zero}
 use native.Mathlib.Omega.{arith}
 use lib.Dec.{ltb}
-use lib.ListN.{length, getD, replicate, length-replicate}
+use lib.ListN.{length, getD, length-replicate}
 use Rattle.base.specs.Pick.{pick}
 use Rattle.base.specs.Counting.{count}
 use Rattle.base.proofs.Counting.{count-zero, count-none}
+use Rattle.base.proofs.Lists.{zeros-at}
 use Rattle.rules.specs.Lists.{member}
 use Rattle.rules.specs.Score.{union, numberOf, pivotHash}
 use Rattle.rules.specs.Script.{Script, Look, stepped, active, pivotOf, sharedOf, look, countsAfter, noCounts, looks, lastOr}
@@ -17,7 +18,7 @@ use Rattle.rules.specs.Moves.{Slide, marks, begin, moved, movedBy, slide
 use Rattle.rules.specs.Ranks.{either, both, PivotAt, mark, has, size, Slid}
 use Rattle.base.specs.Lists.{All, StrictAsc}
 use Rattle.rules.proofs.Score.{strict-same, strict-union, member-union}
-use Rattle.rules.proofs.Moves.{moved-slid, moved-counts}
+use Rattle.rules.proofs.Moves.{none-has, moved-slid, moved-counts}
 use Rattle.rules.proofs.Slide.{pivot-is, shared-is, pivot-some, length-ms}
 
 last-at : (d e x : ℕ) (xs : List ℕ) → lastOr d (x ∷ xs) ≡ getD (x ∷ xs) (length xs) e
@@ -34,19 +35,9 @@ unfolding active noCounts pick
 none-active [] = refl
 none-active (c ∷ cs) = none-active cs
 
-none-has : (n i : ℕ) → has (replicate n 0) i ≡ 0
-unfolding has
-none-has zero i = refl
-none-has (suc n) zero = refl
-none-has (suc n) (suc i) = none-has n i
-
-or-none : (a : Bool) → (a || false) ≡ a
-or-none true = refl
-or-none false = refl
-
 union-none : (query : List ℕ) → StrictAsc query → union query [] ≡ query
 unfolding member
-union-none query r = strict-same (union query []) query (strict-union query []) r (λ h. member-union h query [] ∙ or-none (member h query))
+union-none query r = strict-same (union query []) query (strict-union query []) r (λ h. member-union h query [] ∙ or-false (member h query))
 
 module _ (query coords : List ℕ) (rq : StrictAsc query) (rc : StrictAsc coords) (sub : (h : ℕ) → member h query ≡ true → member h coords ≡ true) (some : 0 < length query) where
   no-lens : length (noCounts coords) ≡ length coords
@@ -65,7 +56,7 @@ module _ (query coords : List ℕ) (rq : StrictAsc query) (rc : StrictAsc coords
       let r = pivot-some query coords (noCounts coords) rq rc sub no-lens some in
       let at : numberOf coords (lastOr 0 query) ≡ r .0 = sym first-pivot ∙ pivot-is query coords (noCounts coords) rq rc sub no-lens (r .0) (r .1) (r .2) in
       let none : count (both (mark (marks query coords)) (has (noCounts coords))) (r .0 + 1) ≡ 0 =
-      count-none (both (mark (marks query coords)) (has (noCounts coords))) 0 (r .0 + 1) (omega arith) (λ j l m. omega (arith, none-has (length coords) j)) ∙
+      count-none (both (mark (marks query coords)) (has (noCounts coords))) 0 (r .0 + 1) (omega arith) (λ j l m. omega (arith, none-has (noCounts coords) j (zeros-at (length coords) j))) ∙
       count-zero (both (mark (marks query coords)) (has (noCounts coords))) in
       record {
         lens = no-lens ∙ sym (length-ms query coords (noCounts coords) rq rc sub no-lens);

@@ -24,7 +24,7 @@ use Rattle.rules.specs.Moves.{isActive, marks}
 use Rattle.rules.proofs.Moves.{or-bit, and-bit, active-bit, mark-past, has-past, mark-le, has-le}
 use Rattle.rules.specs.Ranks.{either, both, PivotAt, mark, has, size, Slid}
 use Rattle.base.specs.Lists.{StrictAsc}
-use Rattle.base.proofs.Lists.{strict-at}
+use Rattle.base.proofs.Lists.{strict-at, map-at}
 use Rattle.rules.proofs.Score.{all-member, member-all, strict-same, strict-union, member-union, at-number, number-fits, number-at, below-all, shared-score}
 
 -- ---- the elements at the flagged places
@@ -93,11 +93,6 @@ count-flags t xs zero l = sym (count-zero (λ (i : ℕ). pick (t (getD xs i 0)) 
 count-flags t [] (suc n) l = absurd (not-suc-le-zero l)
 count-flags t (x ∷ xs) (suc n) l = omega (arith, count-flags t xs n (le-of-suc-le-suc l), count-front (λ (i : ℕ). pick (t (getD (x ∷ xs) i 0)) 1 0) n)
 
-getD-map : (f : ℕ → Bool) (xs : List ℕ) (i : ℕ) → i < length xs → getD (map f xs) i false ≡ f (getD xs i 0)
-getD-map f [] i l = absurd (not-suc-le-zero l)
-getD-map f (x ∷ xs) zero l = refl
-getD-map f (x ∷ xs) (suc i) l = getD-map f xs i (le-of-suc-le-suc l)
-
 -- ---- the flags of the query, the active and the union
 
 -- the flag of each count
@@ -163,7 +158,7 @@ sub-chosen xs ys r s sub = strict-same ys (chosen flags xs) s (chosen-strict fla
     at h m =
         let l = number-fits xs r h m in
         subst (λ (x : ℕ). member x (chosen flags xs) ≡ member x ys) (at-number xs r h m)
-        (member-chosen flags xs r (numberOf xs h) l ∙ getD-map (λ (c : ℕ). member c ys) xs (numberOf xs h) l)
+        (member-chosen flags xs r (numberOf xs h) l ∙ map-at (λ (c : ℕ). member c ys) xs (numberOf xs h) 0 false l)
 
     there : (h : ℕ) → member h ys ≡ true → member h (chosen flags xs) ≡ true
     there h m = at h (sub h m) ∙ m
@@ -211,11 +206,11 @@ module _ (query coords counts : List ℕ) (rq : StrictAsc query) (rc : StrictAsc
   alive-at : (i : ℕ) → i < length coords → member (getD coords i 0) alive ≡ ltb 0 (getD counts i 0)
   alive-at i l =
       ap (member (getD coords i 0)) (active-chosen coords counts) ∙ member-chosen (actives counts) coords rc i l ∙
-      getD-map (λ (n : ℕ). ltb 0 n) counts i (omega arith)
+      map-at (λ (n : ℕ). ltb 0 n) counts i 0 false (omega arith)
 
   mark-ms : (i : ℕ) → i < length coords → mark ms i ≡ pick (member (getD coords i 0) query) 1 0
   unfolding marks mark
-  mark-ms i l = ap (λ (b : Bool). pick {A = ℕ} b 1 0) (getD-map (λ (c : ℕ). member c query) coords i l)
+  mark-ms i l = ap (λ (b : Bool). pick {A = ℕ} b 1 0) (map-at (λ (c : ℕ). member c query) coords i 0 false l)
 
   has-counts : (i : ℕ) → i < length coords → has counts i ≡ pick (member (getD coords i 0) alive) 1 0
   unfolding isActive
@@ -224,7 +219,7 @@ module _ (query coords counts : List ℕ) (rq : StrictAsc query) (rc : StrictAsc
   mark-us : (i : ℕ) → i < length coords → mark us i ≡ either (mark ms) (has counts) i
   unfolding us whole mark
   mark-us i l =
-      ap (λ (b : Bool). pick {A = ℕ} b 1 0) (getD-map (λ (c : ℕ). member c whole) coords i l ∙ member-union (getD coords i 0) query alive) ∙
+      ap (λ (b : Bool). pick {A = ℕ} b 1 0) (map-at (λ (c : ℕ). member c whole) coords i 0 false l ∙ member-union (getD coords i 0) query alive) ∙
       or-bit (member (getD coords i 0) query) (member (getD coords i 0) alive) ∙ rw (mark-ms i l, has-counts i l)
 
   both-at : (i : ℕ) → i < length coords → pick (inBoth query alive (getD coords i 0)) 1 0 ≡ both (mark ms) (has counts) i

@@ -1,3 +1,2 @@
-pub mod Hits
 pub mod State
 pub mod First

@@ -11,7 +11,7 @@ use lib.ListN.{length, getD, set, length-map, List·getD-map, List·getD-eq-defa
 use lib.Seq.{ext-getD, getD-set-same, getD-set-other}
 use Rattle.base.specs.Lists.{StrictAsc, hit, times}
 use Rattle.base.proofs.Order.{lt-or-ge, eq-or-ne}
-use Rattle.base.proofs.Lists.{hit-same, hit-other, times-append}
+use Rattle.base.proofs.Lists.{hit-same, hit-other, hit-le, times-append}
 use Rattle.rules.specs.Lists.{member, upFrom}
 use Rattle.rules.specs.Score.{numberOf, score}
 use Rattle.rules.specs.Script.{active}
@@ -104,9 +104,6 @@ module _ {cs ws ss : List ℕ} {at : Slide} {ns : List ℕ} (k : Active cs ws ss
       (counted-members flags (countsOf cs) ns (counts-length cs ∙ sym (flags-length cs)) (k .counts))
 
 -- ---- one item more, one less
-
-hit-le : (v x : ℕ) → hit v x ≤ 1
-hit-le v x = ⊎-elim (λ (e : v ≡ x). rw e (omega (arith, hit-same x))) (λ (e : v ≢ x). omega (arith, hit-other v x e)) (eq-or-ne v x)
 
 times-le : (v : ℕ) (xs : List ℕ) → times v xs ≤ length xs
 unfolding times

@@ -9,11 +9,11 @@ use lib.ListN.{getD, set, length-set}
 use borrow.Author.Needs.{needs}
 use Rattle.base.specs.Lists.{hit}
 use Rattle.base.specs.Nearest.{FirstFrom, NoneFrom}
+use Rattle.base.proofs.Lists.{hit-le}
 use Rattle.summary_bits.specs.Bits.{bitAt, withOff}
 use Rattle.summary_bits.specs.Summary.{lowered}
 use Rattle.summary_bits.proofs.Search.{next-at, next-nothing}
 use Rattle.slide_mapper.specs.State.{sharedBit}
-use Rattle.slide_mapper.proofs.Hits.{hit-le}
 use Rattle.slide_mapper.proofs.State.{pivot-lt, shared-lt, bit-le, search-asks, took-le, took-one, leaves, gone-as, flat-none, flat-again, flat-query, flat-high, deleted-pos, less-held, deleted-in, deleted-other-low, deleted-some}
 use Rattle.slide_mapper.proofs.delete_ref.Statement.{statement}
 use Rattle.slide_mapper.proofs.delete_ref.Tie as tie
