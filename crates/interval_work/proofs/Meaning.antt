@@ -24,12 +24,12 @@ use Rattle.rules.proofs.IntervalEvents.{coordOf, startsLater, endsLater}
 use Rattle.rules.proofs.IntervalKeys.{insertKeys, deleteKeys}
 use Rattle.rules.proofs.IntervalTaken.{startsOf, starts-are}
 use Rattle.slide_mapper.specs.State.{flagsOf, countsOf}
+use Rattle.slide_mapper.proofs.Marked.{ones-flags, ones-counts}
 use Rattle.coordinates.specs.Coordinates.{flags}
 use Rattle.interval_events.specs.Spans.{Asks, raised}
 use Rattle.interval_events.specs.Events.{kept, keysOf}
 use Rattle.interval_work.specs.Work.{startKeys, endKeys, Tells, Part}
 use Rattle.interval_work.proofs.Beginning.{all-kept, asc-kept}
-use Rattle.interval_work.proofs.Numbering.{flags-marks, flags-counts}
 
 -- ---- the lists of the taken intervals
 
@@ -197,14 +197,15 @@ module _ {s : Sweep} {query hs ss es : List ℕ} {from to : ℕ} (k : Part s que
         ap (λ (xs : List ℕ). raised xs (noCounts u)) (ap (λ (is : List Interval). map (numberOf u) (hashesOf is)) first ∙ numbered n ∙ ap (λ (t : ℕ). take t ns) size)
 
     pub part-tells : StrictAsc query → (cs : List ℕ) → cs ≡ flags query (union query ths) → Tells s (flagsOf cs) (countsOf cs) ss es ns from to
+    unfolding flags
     part-tells rq cs e = record {
       asks = record {
         order = subst (λ (xs : List ℕ). StrictAsc xs) (sym (k .query-is)) rq;
-        flags = ap (λ (q : List ℕ). marks q (coordsOf s)) (k .query-is) ∙ ap (marks query) part-coords ∙ sym (flags-marks query (union query ths)) ∙ ap flagsOf (sym e);
+        flags = ap (λ (q : List ℕ). marks q (coordsOf s)) (k .query-is) ∙ ap (marks query) part-coords ∙ sym (ones-flags query (union query ths)) ∙ ap flagsOf (sym e);
         end = k .end-is;
       };
       start = k .start-is;
       inserts = inserts-are;
       deletes = deletes-are;
-      begins = begins-are ∙ ap (raised (take (length ns - length (startKeys from to ss es ns)) ns)) (ap noCounts part-coords ∙ sym (flags-counts query (union query ths)) ∙ ap countsOf (sym e));
+      begins = begins-are ∙ ap (raised (take (length ns - length (startKeys from to ss es ns)) ns)) (ap noCounts part-coords ∙ sym (ones-counts query (union query ths)) ∙ ap countsOf (sym e));
     }

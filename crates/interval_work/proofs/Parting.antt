@@ -1,7 +1,6 @@
 -- The sweep over a part: where the checks let its lists through, the numbering and the sweep over the events may be asked, and what they answer is what the rules'
 -- sweep finds. Assumes nothing.
 use mathlib.Core.Path.{_≡_, refl, sym, ap, subst, _∙_}
-use mathlib.Core.Bool.{Bool, true, false}
 use mathlib.Core.List.{List, [], _∷_, _++_, map}
 use Prim.Native.Nat.{ℕ, zero, suc, _+_, _-_, _*_, _/_, _≤_, _<_}
 use native.Mathlib.Omega.{arith}
@@ -11,6 +10,7 @@ use lib.Seq.{length-take-le}
 use Rattle.base.specs.Pick.{pick}
 use Rattle.base.specs.Lists.{All}
 use Rattle.base.specs.declared.Best.{Best}
+use Rattle.base.proofs.Checks.{pick-le}
 use Rattle.base.proofs.Lists.{all-map}
 use Rattle.rules.specs.Limits.{queryLimit, itemLimit}
 use Rattle.rules.specs.Checks.{ceil64}
@@ -19,22 +19,19 @@ use Rattle.rules.specs.Sweep.{Sweep, best}
 use Rattle.rules.specs.Interval.{taken, coordsOf, spans}
 use Rattle.rules.proofs.Score.{length-union}
 use Rattle.slide_mapper.specs.State.{flagsOf, countsOf}
+use Rattle.slide_mapper.proofs.Marked.{ones-length}
 use Rattle.coordinates.specs.Coordinates.{flags}
 use Rattle.interval_events.specs.Events.{kept, Front}
 use Rattle.interval_work.specs.Work.{Given, Tells, Zero, Rooms, Numbers, Part, Lent, Found}
 use Rattle.interval_events.proofs.Gathering.{front-long, kept-many, pick-length}
-use Rattle.interval_work.proofs.Numbering.{flags-length, flags-blank, items-behind, items-inside}
+use Rattle.interval_work.proofs.Numbering.{flags-blank, items-behind, items-inside}
 use Rattle.interval_work.proofs.Meaning.{part-items, part-coords, part-tells}
 
 kept-few : (from : ℕ) (es xs : List ℕ) → length (kept from es xs) ≤ length xs
 unfolding kept pick
 kept-few from [] xs = omega arith
 kept-few from (e ∷ es) [] = omega arith
-kept-few from (e ∷ es) (x ∷ xs) = omega (arith, length-append (pick (ltb from e) (x ∷ []) []) (kept from es xs), pick-length (ltb from e) x, one (ltb from e), kept-few from es xs)
-  where
-    one : (b : Bool) → pick {A = ℕ} b 1 0 ≤ 1
-    one true = omega arith
-    one false = omega arith
+kept-few from (e ∷ es) (x ∷ xs) = omega (arith, length-append (pick (ltb from e) (x ∷ []) []) (kept from es xs), pick-length (ltb from e) x, pick-le (ltb from e), kept-few from es xs)
 
 zero-less : {m : ℕ} {xs : List ℕ} (n : ℕ) → n ≤ m → Zero m xs → Zero n xs
 zero-less n l z = record { zeros = z .zeros; long = omega (arith, z .long) }
@@ -82,7 +79,8 @@ module _ {query hs ss es keys counts coords words summary out : List ℕ} (g : L
     ns-long = ap length ns-are ∙ length-map ths (numberOf u) ∙ sym (f .many)
 
     flags-long : length (take c counts′) ≡ length u
-    flags-long = ap length (told .flags-are) ∙ flags-length query u
+    unfolding flags
+    flags-long = ap length (told .flags-are) ∙ ones-length query u
 
     pub part-given : (keys′ out′ : List ℕ) → length keys′ ≡ length keys → length out′ ≡ length out → Given ss es ns keys′ (take c counts′) words summary out′ from
     part-given keys′ out′ kl ol = record {

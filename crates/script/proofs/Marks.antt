@@ -2,18 +2,17 @@
 -- and its pivot is the one that the rules begin with, since both are the union's k-th smallest. Assumes nothing.
 use mathlib.Core.Path.{_≡_, refl, sym, ap, _∙_, subst}
 use mathlib.Core.Logic.{⊎-elim, _≢_}
-use mathlib.Core.Bool.{Bool, true, false, or-true, or-false}
-use mathlib.Core.List.{List, [], _∷_, _++_, map}
-use Prim.Native.Nat.{ℕ, zero, suc, _+_, _/_, _%_, _^_, _≤_, _<_}
-use native.Mathlib.Nat.{not-suc-le-zero, le-of-suc-le-suc, zero-div}
+use mathlib.Core.Bool.{Bool, true, or-true, or-false}
+use mathlib.Core.List.{List, [], _∷_, _++_}
+use Prim.Native.Nat.{ℕ, _+_, _≤_, _<_}
 use native.Mathlib.Numerals.{add-one}
 use native.Mathlib.Omega.{arith}
-use lib.Dec.{eqb}
-use lib.ListN.{length, getD, set, take, replicate, length-set, length-map, length-replicate}
+use lib.ListN.{length, getD, set, take, replicate, length-set, length-replicate}
 use lib.Seq.{getD-set-same, getD-set-other, ext-getD, take-suc, take-all}
 use borrow.Author.Tests.{eq-eqb, ne-eqb}
 use Rattle.base.specs.Pick.{pick}
 use Rattle.base.specs.Lists.{StrictAsc}
+use Rattle.base.proofs.Lists.{map-at}
 use Rattle.base.proofs.Order.{eq-or-ne}
 use Rattle.rules.specs.Lists.{member}
 use Rattle.rules.specs.Score.{numberOf}
@@ -23,57 +22,14 @@ use Rattle.rules.specs.Moves.{marks, begin}
 use Rattle.rules.specs.Moves as moves
 use Rattle.rules.specs.Ranks.{either, both, mark, has, size, PivotAt}
 use Rattle.rules.proofs.Score.{member-append, getD-member, at-number, number-fits, number-at}
-use Rattle.rules.proofs.Slide.{size-query}
 use Rattle.rules.proofs.Ranks.{pivot-only}
 use Rattle.rules.proofs.Script.{begin-slid}
-use Rattle.summary_bits.specs.Bits.{bit, bitAt}
-use Rattle.summary_bits.specs.Summary.{Summary}
+use Rattle.summary_bits.proofs.Words.{clear-bits}
+use Rattle.summary_bits.proofs.Kept.{clear-summary}
 use Rattle.slide_mapper.specs.declared.Slide.{Slide}
 use Rattle.slide_mapper.specs.State.{flagsOf, countsOf, slideOf, Blank, Ready}
-use Rattle.slide_mapper.proofs.State.{counts-at}
+use Rattle.slide_mapper.proofs.Marked.{ones-flags, ones-counts, ones-length, ones-low, ones-size}
 use Rattle.script.specs.Work.{Sound, Clear, marked, Begun}
-
-pub zeros-at : (n i : ℕ) → getD {A = ℕ} (replicate n 0) i 0 ≡ 0
-zeros-at zero i = refl
-zeros-at (suc n) zero = refl
-zeros-at (suc n) (suc i) = zeros-at n i
-
-map-at : (f : ℕ → ℕ) (xs : List ℕ) (i : ℕ) → i < length xs → getD (map f xs) i 0 ≡ f (getD xs i 0)
-map-at f [] i l = absurd (not-suc-le-zero l)
-map-at f (x ∷ xs) zero l = refl
-map-at f (x ∷ xs) (suc i) l = map-at f xs i (le-of-suc-le-suc l)
-
--- ---- how marked count words read
-
-flag-bit : (b : Bool) → eqb (pick b 1 0 % 2) 1 ≡ b
-unfolding pick
-flag-bit true = refl
-flag-bit false = refl
-
-no-count : (b : Bool) → pick b 1 0 / 2 ≡ 0
-unfolding pick
-no-count true = refl
-no-count false = refl
-
-pub marked-flags : (query coords : List ℕ) → flagsOf (marked query coords) ≡ marks query coords
-unfolding flagsOf marked marks
-marked-flags query [] = refl
-marked-flags query (c ∷ cs) = rw (flag-bit (member c query), marked-flags query cs)
-
-pub marked-counts : (query coords : List ℕ) → countsOf (marked query coords) ≡ noCounts coords
-unfolding countsOf marked noCounts
-marked-counts query [] = refl
-marked-counts query (c ∷ cs) = rw (no-count (member c query), marked-counts query cs)
-
-marked-length : (query coords : List ℕ) → length (marked query coords) ≡ length coords
-unfolding marked
-marked-length query coords = length-map coords (λ (c : ℕ). pick (member c query) 1 0)
-
-marked-low : (query coords : List ℕ) (i : ℕ) → getD (marked query coords) i 0 ≤ 1
-unfolding noCounts
-marked-low query coords i =
-    let e : getD (countsOf (marked query coords)) i 0 ≡ 0 = ap (λ (l : List ℕ). getD l i 0) (marked-counts query coords) ∙ zeros-at (length coords) i in
-    omega (arith, e, counts-at (marked query coords) i)
 
 marked-none : (coords : List ℕ) → replicate (length coords) 0 ≡ marked [] coords
 unfolding marked member pick
@@ -97,7 +53,7 @@ module _ (query coords : List ℕ) (asc : StrictAsc coords) (h : ℕ) (in-coords
   at-here : getD (marked more coords) (numberOf coords h) 0 ≡ 1
   unfolding marked pick
   at-here =
-      map-at (λ (c : ℕ). pick (member c more) 1 0) coords (numberOf coords h) (number-fits coords asc h in-coords) ∙
+      map-at (λ (c : ℕ). pick (member c more) 1 0) coords (numberOf coords h) 0 0 (number-fits coords asc h in-coords) ∙
       ap (λ (x : ℕ). pick {A = ℕ} (member x more) 1 0) (at-number coords asc h in-coords) ∙ ap (λ (b : Bool). pick {A = ℕ} b 1 0) more-same
 
   at-other : (i : ℕ) → i < length coords → i ≢ numberOf coords h → getD (marked more coords) i 0 ≡ getD (marked query coords) i 0
@@ -105,21 +61,21 @@ module _ (query coords : List ℕ) (asc : StrictAsc coords) (h : ℕ) (in-coords
   at-other i l n =
       let x = getD coords i 0 in
       let other : x ≢ h = λ e. n (sym (number-at coords asc i l) ∙ ap (numberOf coords) e) in
-      map-at (λ (c : ℕ). pick (member c more) 1 0) coords i l ∙ ap (λ (b : Bool). pick {A = ℕ} b 1 0) (more-other x other) ∙
-      sym (map-at (λ (c : ℕ). pick (member c query) 1 0) coords i l)
+      map-at (λ (c : ℕ). pick (member c more) 1 0) coords i 0 0 l ∙ ap (λ (b : Bool). pick {A = ℕ} b 1 0) (more-other x other) ∙
+      sym (map-at (λ (c : ℕ). pick (member c query) 1 0) coords i 0 0 l)
 
   marked-more : set (marked query coords) (numberOf coords h) 1 ≡ marked (query ++ (h ∷ [])) coords
-  unfolding more
+  unfolding more marked
   marked-more =
       let old = marked query coords in
       let n = numberOf coords h in
-      let long : length (set old n 1) ≡ length coords = length-set old n 1 ∙ marked-length query coords in
-      ext-getD 0 (set old n 1) (marked more coords) (long ∙ sym (marked-length more coords))
+      let long : length (set old n 1) ≡ length coords = length-set old n 1 ∙ ones-length query coords in
+      ext-getD 0 (set old n 1) (marked more coords) (long ∙ sym (ones-length more coords))
       (λ i l.
       ⊎-elim
       (λ (e : i ≡ n).
       subst (λ (k : ℕ). getD (set old n 1) k 0 ≡ getD (marked more coords) k 0) (sym e)
-      (getD-set-same old n 1 0 (omega (arith, number-fits coords asc h in-coords, marked-length query coords)) ∙ sym at-here))
+      (getD-set-same old n 1 0 (omega (arith, number-fits coords asc h in-coords, ones-length query coords)) ∙ sym at-here))
       (λ (d : i ≢ n). getD-set-other old n i 1 0 d ∙ sym (at-other i (omega (arith, long)) d)) (eq-or-ne i n))
 
 -- ---- the loop, at the hash i
@@ -154,45 +110,33 @@ module _ {query coords cs : List ℕ} {i : ℕ} (s : Sound query coords) (m : Ma
 
 -- ---- the state before the first step
 
-clear-bits : (n j : ℕ) → bitAt (replicate n 0) j ≡ 0
-unfolding bitAt bit
-clear-bits n j = rw (zeros-at n (j / 64)) (omega (arith, zero-div (2 ^ (j % 64))))
-
-clear-summary : (n k : ℕ) → Summary (replicate n 0) (replicate k 0)
-unfolding Summary
-clear-summary n k j = rw (clear-bits k j, zeros-at n j)
-
-no-lens : (coords : List ℕ) → length (noCounts coords) ≡ length coords
-unfolding noCounts
-no-lens coords = length-replicate (length coords) 0
-
 pub begin-blank : {query coords cs ws ss cs₀ : List ℕ} → Sound query coords → Clear (length coords) cs₀ ws ss → cs ≡ marked query coords → Blank cs ws ss
+unfolding marked
 begin-blank {query} {coords} {cs} {ws} {ss} s c e =
-    let long : length cs ≡ length coords = ap length e ∙ marked-length query coords in
+    let long : length cs ≡ length coords = ap length e ∙ ones-length query coords in
     let wide : length ws ≡ ceil64 (length coords) = ap length (c .words) ∙ length-replicate (ceil64 (length coords)) 0 in
     let high : length ss ≡ ceil64 (ceil64 (length coords)) = ap length (c .summary) ∙ length-replicate (ceil64 (ceil64 (length coords))) 0 in
     let many : size (flagsOf cs) ≡ length query =
-    ap (λ (x : List ℕ). size (flagsOf x)) e ∙ ap size (marked-flags query coords) ∙
-    size-query query coords (noCounts coords) (s .query-asc) (s .coords-asc) (s .within) (no-lens coords) in
+    ap (λ (x : List ℕ). size (flagsOf x)) e ∙ ones-size query coords (s .query-asc) (s .coords-asc) (s .within) in
     record {
       small = omega (arith, long, s .few);
       room = omega (arith, long, wide);
       fits = record { room = omega (arith, wide, high); small = omega (arith, wide, s .few) };
-      flags = λ j. rw e (marked-low query coords j);
+      flags = λ j. rw e (ones-low query coords j);
       some = omega (arith, many, s .some);
-      words = λ j. rw (c .words) (clear-bits (ceil64 (length coords)) j);
-      summary = subst (λ (x : List ℕ). Summary x ss) (sym (c .words)) (subst (λ (x : List ℕ). Summary (replicate (ceil64 (length coords)) 0) x) (sym (c .summary)) (clear-summary (ceil64 (length coords)) (ceil64 (ceil64 (length coords)))));
+      words = clear-bits (ceil64 (length coords)) (c .words);
+      summary = clear-summary (ceil64 (length coords)) (ceil64 (ceil64 (length coords))) (c .words) (c .summary);
     }
 
 same-slide : (s t : moves.Slide) → s .counts ≡ t .counts → s .pivot ≡ t .pivot → s .shared ≡ t .shared → s ≡ t
 same-slide s t p q r i = record { counts = p i; pivot = q i; shared = r i }
 
 pub begin-begun : {query coords cs ws ss : List ℕ} {at : Slide} → Sound query coords → cs ≡ marked query coords → at .shared ≡ 0 → Ready cs ws ss at → Begun query coords cs ws ss at
-unfolding begin slideOf
+unfolding begin slideOf marked
 begin-begun {query} {coords} {cs} {ws} {ss} {at} s e z k =
     let ms = marks query coords in
-    let flags : flagsOf cs ≡ ms = ap flagsOf e ∙ marked-flags query coords in
-    let counts : countsOf cs ≡ noCounts coords = ap countsOf e ∙ marked-counts query coords in
+    let flags : flagsOf cs ≡ ms = ap flagsOf e ∙ ones-flags query coords in
+    let counts : countsOf cs ≡ noCounts coords = ap countsOf e ∙ ones-counts query coords in
     let ours : PivotAt (either (mark ms) (has (noCounts coords))) (both (mark ms) (has (noCounts coords))) (size ms) (at .pivot .0) (at .shared) =
     subst (λ (x : List ℕ). PivotAt (either (mark ms) (has x)) (both (mark ms) (has x)) (size ms) (at .pivot .0) (at .shared)) counts
     (subst (λ (fs : List Bool). PivotAt (either (mark fs) (has (countsOf cs))) (both (mark fs) (has (countsOf cs))) (size fs) (at .pivot .0) (at .shared)) flags (k .slid .at)) in

@@ -10,6 +10,7 @@ use Rattle.base.specs.declared.Refusal.{Refusal}
 use Rattle.base.specs.declared.Verdict.{Verdict}
 use Rattle.base.specs.declared.Verdict.the-variants.{Fine, No}
 use Rattle.base.specs.declared.ScriptAnswer.{ScriptAnswer}
+use Rattle.base.proofs.Lists.{zeros-at}
 use Rattle.rules.specs.Checks.{ceil64}
 use Rattle.rules.specs.Script.{Script, Look, look, looks, noCounts, final}
 use Rattle.rules.specs.Moves.{marks, begin, slideLook, looksByMoves}
@@ -22,7 +23,6 @@ use Rattle.slide_mapper.specs.declared.Slide.{Slide}
 use Rattle.slide_mapper.specs.State.{flagsOf, countsOf, slideOf}
 use Rattle.script.specs.Given.{scriptOf, lentOf}
 use Rattle.script.specs.Work.{Sound, Steps, Accepted, Exact, Clear, Begun, lookOf, looksFrom, Start, Answered, Worked}
-use Rattle.script.proofs.Marks.{zeros-at}
 
 -- ---- the work lists
 

@@ -12,13 +12,14 @@ use lib.Seq.{getD-set-other}
 use Rattle.base.specs.Pick.{pick}
 use Rattle.base.specs.Nearest.{LastBelow, NoneBelow}
 use Rattle.base.specs.Counting.{count}
+use Rattle.base.proofs.Lists.{zeros-at}
 use Rattle.base.proofs.Order.{lt-or-ge, eq-or-ne}
 use Rattle.base.proofs.Counting.{count-zero, count-next, count-same, count-none}
 use Rattle.rules.specs.Ranks.{either, both, mark, has, size, PivotAt, Slid}
 use Rattle.summary_bits.specs.Bits.{bit, bitAt, withOn}
 use Rattle.summary_bits.specs.Summary.{Fits, Summary}
 use Rattle.summary_bits.proofs.Number.{one-shl, bit-of-zero, bit-or, bit-pow-same, bit-pow-other}
-use Rattle.summary_bits.proofs.Words.{bitAt-zero, zeros-at, no-bits}
+use Rattle.summary_bits.proofs.Words.{bitAt-zero, no-bits}
 use Rattle.summary_bits.proofs.Stored.{stored-here, stored-elsewhere, stored-length, stored-summary}
 use Rattle.slide_mapper.specs.declared.Slide.{Slide}
 use Rattle.slide_mapper.specs.State.{flagsOf, countsOf, slideOf, Gathered, Held, Ready, Blank}

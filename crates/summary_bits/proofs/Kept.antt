@@ -11,10 +11,11 @@ use lib.ListN.{length, getD, set, replicate}
 use lib.Seq.{getD-set-same, getD-set-other}
 use borrow.Author.Tests.{eqb-true, eqb-false}
 use Rattle.base.specs.Pick.{pick}
+use Rattle.base.proofs.Lists.{zeros-at}
 use Rattle.summary_bits.specs.Bits.{bitAt, onBit, offBit, withOn, withOff}
 use Rattle.summary_bits.specs.Summary.{Summary, raised, lowered}
 use Rattle.summary_bits.proofs.Number.{on-pos, off-le}
-use Rattle.summary_bits.proofs.Words.{zeros-at, zeros-bits, on-length, on-here, on-elsewhere, off-length, off-here, off-elsewhere, words-unique, no-bits}
+use Rattle.summary_bits.proofs.Words.{zeros-bits, on-length, on-here, on-elsewhere, off-length, off-here, off-elsewhere, words-unique, no-bits}
 
 pub raised-length : (ws ss : List ℕ) (i : ℕ) → length (raised ws ss i) ≡ length ss
 unfolding raised pick
@@ -75,6 +76,9 @@ summary-unique ws ss ts e hs ht a b = words-unique ss ts e hs ht (λ j. a j ∙ 
 pub zeros-summary : (n m : ℕ) → Summary (replicate n 0) (replicate m 0)
 unfolding Summary
 zeros-summary n m j = zeros-bits m j ∙ omega (arith, zeros-at n j)
+
+pub clear-summary : {ws ss : List ℕ} (n m : ℕ) → ws ≡ replicate n 0 → ss ≡ replicate m 0 → Summary ws ss
+clear-summary n m e f = rw (e, f) (zeros-summary n m)
 
 pub summary-zeros : (n : ℕ) (ss : List ℕ) → ((i : ℕ) → getD ss i 0 < 2 ^ 64) → Summary (replicate n 0) ss → ss ≡ replicate (length ss) 0
 unfolding Summary

@@ -6,7 +6,8 @@ use mathlib.Core.List.{List}
 use Prim.Native.Nat.{ℕ, _+_, _*_, _/_, _%_, _^_, _≤_, _<_}
 use native.Mathlib.Omega.{arith}
 use native.Mathlib.Decide.{ℕ-discrete}
-use lib.ListN.{length, getD, set, replicate, length-set, length-replicate, getD-replicate, List·getD-eq-default}
+use lib.ListN.{length, getD, set, replicate, length-set, length-replicate, List·getD-eq-default}
+use Rattle.base.proofs.Lists.{zeros-at}
 use Rattle.base.proofs.Order.{lt-or-ge}
 use lib.Seq.{getD-set-same, getD-set-other, ext-getD}
 use Rattle.summary_bits.specs.Bits.{bit, bitAt, onBit, offBit, withOn, withOff}
@@ -84,12 +85,11 @@ words-unique ws vs e hw hv same =
     ext-getD 0 ws vs e (λ i l. bits-ext 64 (getD ws i 0) (getD vs i 0) (hw i) (hv i) (λ k m. sym (bit-in ws i k m) ∙ same (i * 64 + k) ∙ bit-in vs i k m))
 
 -- words with no set bit are those that are all 0
-pub zeros-at : (n i : ℕ) → _≡_ {A = ℕ} (getD (replicate n 0) i 0) 0
-zeros-at n i =
-    ⊎-elim (λ (l : i < n). getD-replicate n i 0 0 l) (λ (l : n ≤ i). List·getD-eq-default (replicate n 0) 0 (rw (length-replicate {A = ℕ} n 0) l)) (lt-or-ge i n)
-
 pub zeros-bits : (n k : ℕ) → bitAt (replicate n 0) k ≡ 0
 zeros-bits n k = bitAt-zero (replicate n 0) k (zeros-at n (k / 64))
+
+pub clear-bits : {ws : List ℕ} (n : ℕ) → ws ≡ replicate n 0 → (k : ℕ) → bitAt ws k ≡ 0
+clear-bits n e k = ap (λ (xs : List ℕ). bitAt xs k) e ∙ zeros-bits n k
 
 pub no-bits : (ws : List ℕ) → ((i : ℕ) → getD ws i 0 < 2 ^ 64) → ((k : ℕ) → bitAt ws k ≡ 0) → ws ≡ replicate (length ws) 0
 no-bits ws h none =

@@ -1,10 +1,9 @@
 -- Before the first item: in count words that are 1 at the query's coordinates and 0 elsewhere the flags are the query's and no count stands, so the mapper may begin, and
 -- begins with no active item. Assumes nothing.
 use mathlib.Core.Path.{_≡_, refl, sym, ap, _∙_, subst}
-use mathlib.Core.Bool.{Bool, true, false}
+use mathlib.Core.Bool.{Bool, false}
 use mathlib.Core.List.{List, [], _∷_, _++_, map, map-append}
-use Prim.Native.Nat.{ℕ, zero, suc, _+_, _-_, _/_, _%_, _^_, _≤_, _<_}
-use native.Mathlib.Nat.{zero-div}
+use Prim.Native.Nat.{ℕ, zero, suc, _+_, _-_, _%_, _≤_, _<_}
 use native.Mathlib.Omega.{arith}
 use lib.Dec.{eqb}
 use lib.ListN.{length, getD, drop, replicate, length-map, length-append, length-replicate, List·getD-append}
@@ -13,8 +12,9 @@ use Rattle.base.specs.Pick.{pick}
 use Rattle.base.specs.Lists.{StrictAsc, All, times}
 use Rattle.base.specs.Counting.{count}
 use Rattle.base.specs.Buffers.{over}
+use Rattle.base.proofs.Checks.{pick-le}
 use Rattle.base.proofs.Counting.{count-below, count-up}
-use Rattle.base.proofs.Lists.{all-map}
+use Rattle.base.proofs.Lists.{all-map, zeros-at}
 use Rattle.rules.specs.Lists.{member}
 use Rattle.rules.specs.Checks.{ceil64}
 use Rattle.rules.specs.Score.{union, numberOf}
@@ -22,11 +22,12 @@ use Rattle.rules.specs.Moves.{marks}
 use Rattle.rules.specs.Ranks.{mark, size}
 use Rattle.rules.proofs.Score.{strict-union, union-left, length-union}
 use Rattle.rules.proofs.Slide.{size-query}
-use Rattle.summary_bits.specs.Bits.{bit, bitAt}
-use Rattle.summary_bits.specs.Summary.{Summary}
+use Rattle.summary_bits.proofs.Words.{clear-bits}
+use Rattle.summary_bits.proofs.Kept.{clear-summary}
 use Rattle.slide_mapper.specs.declared.Slide.{Slide}
 use Rattle.slide_mapper.specs.State.{flagsOf, countsOf, Blank, Ready}
 use Rattle.slide_mapper.proofs.State.{counts-at}
+use Rattle.slide_mapper.proofs.Marked.{ones-flags}
 use Rattle.coordinates.specs.Coordinates.{flags, numbers, Asked, Answered}
 use Rattle.sweep.specs.Active.{asked, Active}
 use Rattle.sweep.specs.Beginning.{Exact, Clear, Given, Begins}
@@ -60,36 +61,13 @@ module _ {m : ℕ} {hs cs is ws ss : List ℕ} where
       summary = e ∙ ap (λ (n : ℕ). replicate n 0) (x .summary);
     }
 
-zeros-at : (n i : ℕ) → getD {A = ℕ} (replicate n 0) i 0 ≡ 0
-zeros-at zero i = refl
-zeros-at (suc n) zero = refl
-zeros-at (suc n) (suc i) = zeros-at n i
-
 -- what is left behind the first n of m zeros
 drop-zeros : (n m : ℕ) → drop n (replicate {A = ℕ} m 0) ≡ replicate (m - n) 0
 drop-zeros zero m = let e : m ≡ m - 0 = omega arith in ap (λ (k : ℕ). replicate {A = ℕ} k 0) e
 drop-zeros (suc n) zero = let e : 0 ≡ 0 - suc n = omega arith in ap (λ (k : ℕ). replicate {A = ℕ} k 0) e
 drop-zeros (suc n) (suc m) = let e : m - n ≡ suc m - suc n = omega arith in drop-zeros n m ∙ ap (λ (k : ℕ). replicate {A = ℕ} k 0) e
 
-clear-bits : (n j : ℕ) → bitAt (replicate n 0) j ≡ 0
-unfolding bitAt bit
-clear-bits n j = rw (zeros-at n (j / 64)) (omega (arith, zero-div (2 ^ (j % 64))))
-
-clear-summary : (n k : ℕ) → Summary (replicate n 0) (replicate k 0)
-unfolding Summary
-clear-summary n k j = rw (clear-bits k j, zeros-at n j)
-
 -- ---- how marked count words read, with k clear ones behind
-
-flag-bit : (b : Bool) → eqb (pick b 1 0 % 2) 1 ≡ b
-unfolding pick
-flag-bit true = refl
-flag-bit false = refl
-
-low-bit : (b : Bool) → pick {A = ℕ} b 1 0 ≤ 1
-unfolding pick
-low-bit true = omega arith
-low-bit false = omega arith
 
 module _ (query : List ℕ) (k : ℕ) where
   abbrev marked : List ℕ → List ℕ
@@ -101,14 +79,15 @@ module _ (query : List ℕ) (k : ℕ) where
   rest-flags (suc n) = ap (λ (fs : List Bool). false ∷ fs) (rest-flags n)
 
   marked-flags : (coords : List ℕ) → flagsOf (marked coords) ≡ marks query coords ++ replicate k false
-  unfolding flagsOf flags marks
-  marked-flags [] = rest-flags k
-  marked-flags (c ∷ cs) = rw (flag-bit (member c query), marked-flags cs)
+  unfolding flagsOf flags
+  marked-flags coords =
+      map-append (λ (w : ℕ). eqb (w % 2) 1) (flags query coords) (replicate k 0) ∙ ap (λ (fs : List Bool). fs ++ flagsOf (replicate k 0)) (ones-flags query coords) ∙
+      ap (λ (fs : List Bool). marks query coords ++ fs) (rest-flags k)
 
   marked-low : (coords : List ℕ) (i : ℕ) → getD (marked coords) i 0 ≤ 1
   unfolding flags
   marked-low [] i = omega (arith, zeros-at k i)
-  marked-low (c ∷ cs) zero = low-bit (member c query)
+  marked-low (c ∷ cs) zero = pick-le (member c query)
   marked-low (c ∷ cs) (suc i) = marked-low cs i
 
 -- flags behind the query's add to its size at most
@@ -168,8 +147,8 @@ module _ {query hashes hs₀ cs₀ is₀ ws ss : List ℕ} (g : Given query hash
             fits = record { room = omega (arith, x .words, x .summary); small = omega (arith, x .words, g .few) };
             flags = low;
             some = omega (arith, many, g .some);
-            words = λ j. rw (z .words) (clear-bits (ceil64 m) j);
-            summary = subst (λ (x : List ℕ). Summary x ss) (sym (z .words)) (subst (λ (x : List ℕ). Summary (replicate (ceil64 m) 0) x) (sym (z .summary)) (clear-summary (ceil64 m) (ceil64 (ceil64 m))));
+            words = clear-bits (ceil64 m) (z .words);
+            summary = clear-summary (ceil64 m) (ceil64 (ceil64 m)) (z .words) (z .summary);
           }
 
     item-numbers : drop (length query) is ≡ map (numberOf all) hashes
