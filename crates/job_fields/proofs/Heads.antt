@@ -16,6 +16,11 @@ use Rattle.job_fields.specs.declared.judge.Head.{Head}
 use Rattle.job_fields.specs.declared.judge.Head.the-variants.{Cut}
 use Rattle.job_fields.proofs.Picks.{pick-yes, pick-no}
 
+-- two tests of which neither holds
+pub neither : (a b : Bool) → a || b ≡ false → (a ≡ false) × (b ≡ false)
+neither true b e = absurd (let z : _≡_ {A = ℕ} 0 1 = cc in omega arith)
+neither false b e = (refl, e)
+
 -- cut, by numbers
 
 module _ (bytes : List ℕ) where
@@ -31,13 +36,9 @@ module _ (bytes : List ℕ) where
   unfolding isCut
   not-cut h = rw (le-ltb (length bytes) 3 (omega arith)) (le-ltb (length bytes) (3 + lengthAt bytes) h)
 
-  or-false : (a b : Bool) → a || b ≡ false → (a ≡ false) × (b ≡ false)
-  or-false true b e = absurd (let z : _≡_ {A = ℕ} 0 1 = cc in omega arith)
-  or-false false b e = (refl, e)
-
   pub whole-field : isCut bytes ≡ false → 3 + lengthAt bytes ≤ length bytes
   unfolding isCut
-  whole-field e = ltb-false (length bytes) (3 + lengthAt bytes) (or-false (ltb (length bytes) 3) (ltb (length bytes) (3 + lengthAt bytes)) e .1)
+  whole-field e = ltb-false (length bytes) (3 + lengthAt bytes) (neither (ltb (length bytes) 3) (ltb (length bytes) (3 + lengthAt bytes)) e .1)
 
 -- at an offset
 

@@ -3,7 +3,7 @@
 use Prim.Native.Nat.{ℕ, zero, suc, _+_, _<_, _≤_}
 use mathlib.Core.Path.{_≡_, refl, sym, ap, _∙_, subst}
 use mathlib.Core.Logic.{_≢_, ⊎-elim}
-use mathlib.Core.Bool.{Bool, true, false, _||_, _&&_, not}
+use mathlib.Core.Bool.{Bool, true, false, _&&_, not}
 use mathlib.Core.List.{List, [], _∷_, _++_, flatten}
 use native.Mathlib.Omega.{arith}
 use borrow.Author.Tests.{lt-ltb, le-ltb, eq-eqb, ne-eqb, ltb-true, ltb-false, eqb-true, eqb-false}
@@ -25,7 +25,7 @@ use Rattle.job_fields.specs.declared.judge.Step.{Step}
 use Rattle.job_fields.specs.declared.judge.Step.the-variants.{Fault, Next, End}
 use Rattle.job_fields.proofs.Picks.{pick-yes, pick-no}
 use Rattle.job_fields.proofs.Faults.{Passed, passed}
-use Rattle.job_fields.proofs.Heads.{whole-field}
+use Rattle.job_fields.proofs.Heads.{neither, whole-field}
 use Rattle.job_fields.proofs.Fields.{joined-more, joined-kept, joined-none, before-more}
 
 -- ---- the branches of a step
@@ -99,15 +99,11 @@ pub holds-none : Holds [] (record { before = 0; mode = 0; joined = 0 })
 unfolding tagBefore modeOf joinedData lastOr filter flatten
 holds-none = record { last = refl; chosen = refl; many = refl; above = λ t h. refl }
 
-or-false : (a b : Bool) → a || b ≡ false → (a ≡ false) × (b ≡ false)
-or-false true b e = absurd (let z : _≡_ {A = ℕ} 0 1 = cc in omega arith)
-or-false false b e = (refl, e)
-
 -- a tag that is in order is not below the one before, nor the same unless its field repeats
 pub in-order : (before : ℕ) (r : FieldRow) → misplaced before r ≡ false → (before ≤ r .tag) × (r .repeats ≡ false → before ≢ r .tag)
 unfolding misplaced
 in-order before r e =
-    let f = or-false _ _ (or-false _ _ e .0) in
+    let f = neither _ _ (neither _ _ e .0) in
     (ltb-false (r .tag) before (f .0), other (f .1))
   where
     other : eqb (r .tag) before && not (r .repeats) ≡ false → r .repeats ≡ false → before ≢ r .tag
