@@ -30,6 +30,8 @@ pub all-append : (P : ℕ → Type 0) (xs ys : List ℕ) → All P xs → All P 
 all-append P [] ys a b = b
 all-append P (x ∷ xs) ys a b = (a .0, all-append P xs ys (a .1) b)
 
+-- of a part
+
 pub all-take : (P : ℕ → Type 0) (n : ℕ) (xs : List ℕ) → All P xs → All P (take n xs)
 all-take P zero xs a = tt
 all-take P (suc n) [] a = tt
@@ -39,6 +41,16 @@ pub all-drop : (P : ℕ → Type 0) (n : ℕ) (xs : List ℕ) → All P xs → A
 all-drop P zero xs a = a
 all-drop P (suc n) [] a = tt
 all-drop P (suc n) (x ∷ xs) a = all-drop P n xs (a .1)
+
+pub asc-take : (n : ℕ) (xs : List ℕ) → Asc xs → Asc (take n xs)
+asc-take zero xs r = tt
+asc-take (suc n) [] r = tt
+asc-take (suc n) (x ∷ xs) r = (all-take (λ y. x ≤ y) n xs (r .0), asc-take n xs (r .1))
+
+pub asc-drop : (n : ℕ) (xs : List ℕ) → Asc xs → Asc (drop n xs)
+asc-drop zero xs r = r
+asc-drop (suc n) [] r = tt
+asc-drop (suc n) (x ∷ xs) r = asc-drop n xs (r .1)
 
 -- what a map makes, by the index, and of a part
 
@@ -92,6 +104,15 @@ asc-at xs a p q h l = ⊎-elim (λ (e : p ≡ q). rw e (omega arith)) (λ (m : p
 
 pub asc-steps : (xs : List ℕ) → ((i : ℕ) → i + 1 < length xs → getD xs i 0 ≤ getD xs (i + 1) 0) → Asc xs
 asc-steps xs h = ordered-steps (λ x y. x ≤ y) (λ x y z l m. omega arith) xs h
+
+-- a function that never goes down keeps the order
+pub asc-map : (f : ℕ → ℕ) → ((x y : ℕ) → x ≤ y → f x ≤ f y) → (xs : List ℕ) → Asc xs → Asc (map f xs)
+asc-map f up [] a = tt
+asc-map f up (x ∷ xs) a = (map-all xs (a .0), asc-map f up xs (a .1))
+  where
+    map-all : (ys : List ℕ) → All (λ y. x ≤ y) ys → All (λ y. f x ≤ y) (map f ys)
+    map-all [] b = tt
+    map-all (y ∷ ys) b = (up x y (b .0), map-all ys (b .1))
 
 -- strictly ascending
 

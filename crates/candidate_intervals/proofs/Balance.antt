@@ -12,7 +12,7 @@ use borrow.Author.Tests.{lt-ltb, le-ltb, ltb-true}
 use Rattle.base.specs.Pick.{pick}
 use Rattle.base.specs.Sort.{insert, sortOf}
 use Rattle.base.proofs.Order.{lt-or-ge, le-or-le}
-use Rattle.base.proofs.Sort.{asc-sort, length-sort, insert-comm, sort-mid, sort-append}
+use Rattle.base.proofs.Sort.{asc-sort, length-sort, sort-mid, sort-append, sort-map}
 use Rattle.keys.specs.Lists.{under, below}
 use Rattle.rules.specs.Limits.{itemLimit}
 use Rattle.rules.specs.Lists.{filter}
@@ -184,29 +184,6 @@ apart (h ∷ hs) = this (isForward h) (apart hs)
         ap (λ (x : List ℕ). insert (startEvent (openOf h)) (insert (endEvent (closeOf h)) x)) e ∙
         ap (insert (startEvent (openOf h))) (sym (sort-mid starts (endEvent (closeOf h)) ends))
     this false e = e
-
--- a list and its sorted form, each element changed alike
-sort-map-insert : (f : ℕ → ℕ) (x : ℕ) (xs : List ℕ) → sortOf (map f (insert x xs)) ≡ insert (f x) (sortOf (map f xs))
-unfolding insert sortOf
-sort-map-insert f x [] = refl
-sort-map-insert f x (y ∷ ys) =
-    ap (insert (f (min x y))) (sort-map-insert f (max x y) ys) ∙
-    ⊎-elim
-    (λ (l : x ≤ y).
-    let lo : min x y ≡ x = omega arith in
-    let hi : max x y ≡ y = omega arith in
-    ap (λ (n : ℕ). insert (f n) (insert (f (max x y)) (sortOf (map f ys)))) lo ∙ ap (λ (n : ℕ). insert (f x) (insert (f n) (sortOf (map f ys)))) hi)
-    (λ (l : y ≤ x).
-    let lo : min x y ≡ y = omega arith in
-    let hi : max x y ≡ x = omega arith in
-    ap (λ (n : ℕ). insert (f n) (insert (f (max x y)) (sortOf (map f ys)))) lo ∙ ap (λ (n : ℕ). insert (f y) (insert (f n) (sortOf (map f ys)))) hi ∙
-    insert-comm (f y) (f x) (sortOf (map f ys)))
-    (le-or-le x y)
-
-sort-map : (f : ℕ → ℕ) (xs : List ℕ) → sortOf (map f (sortOf xs)) ≡ sortOf (map f xs)
-unfolding sortOf
-sort-map f [] = refl
-sort-map f (x ∷ xs) = sort-map-insert f x (sortOf xs) ∙ ap (insert (f x)) (sort-map f xs)
 
 pub events-of : (f : Finder) → let hs = intervalsOf (f .threshold) (f .groups) (f .contigs) (f .starts) (f .ends) in eventsOf (sortOf (map openOf hs)) (sortOf (map closeOf hs)) ≡ hitEvents f
 unfolding eventsOf hitEvents

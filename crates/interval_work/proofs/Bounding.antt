@@ -3,14 +3,14 @@
 use mathlib.Core.Path.{_≡_, refl, sym, ap, subst, _∙_}
 use mathlib.Core.Logic.{⊎-elim}
 use mathlib.Core.List.{List, [], _∷_, _++_}
-use Prim.Native.Nat.{ℕ, zero, suc, _+_, _-_, _*_, _/_, _≤_, _<_, min}
+use Prim.Native.Nat.{ℕ, suc, _+_, _-_, _*_, _/_, _≤_, _<_, min}
 use native.Mathlib.Omega.{arith}
 use lib.Dec.{ltb}
 use lib.ListN.{length, take, drop, replicate, length-take, length-drop, length-replicate}
 use Rattle.base.specs.Lists.{All, Asc}
 use Rattle.base.specs.declared.Range.{Range}
 use Rattle.base.specs.declared.Settings.{Settings}
-use Rattle.base.proofs.Lists.{all-map, all-take, all-drop}
+use Rattle.base.proofs.Lists.{all-map, all-drop, asc-take, asc-drop}
 use Rattle.base.proofs.Order.{lt-or-ge}
 use Rattle.rules.specs.Limits.{queryLimit, itemLimit}
 use Rattle.rules.specs.Lists.{filter}
@@ -24,18 +24,6 @@ use Rattle.keys.specs.Lists.{below}
 use Rattle.keys.proofs.Numbers.{below-number}
 use Rattle.interval_work.specs.Work.{Zero, Part, Lent, Clear, Ready, Of}
 use Rattle.interval_events.proofs.Gathering.{take-behind}
-
--- ---- parts of lists
-
-asc-take : (n : ℕ) (xs : List ℕ) → Asc xs → Asc (take n xs)
-asc-take zero xs r = tt
-asc-take (suc n) [] r = tt
-asc-take (suc n) (x ∷ xs) r = (all-take (λ y. x ≤ y) n xs (r .0), asc-take n xs (r .1))
-
-asc-drop : (n : ℕ) (xs : List ℕ) → Asc xs → Asc (drop n xs)
-asc-drop zero xs r = r
-asc-drop (suc n) [] r = tt
-asc-drop (suc n) (x ∷ xs) r = asc-drop n xs (r .1)
 
 -- ---- how many are below
 
