@@ -1,4 +1,5 @@
 pub mod Insertion
+pub mod Settling
 pub mod Partition
 pub mod Halving
 pub mod Searching
