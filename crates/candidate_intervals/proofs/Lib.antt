@@ -4,6 +4,7 @@ pub mod Cutting
 pub mod Events
 pub mod Sweeping
 pub mod Gathering
+pub mod Pairing
 pub mod Balance
 pub mod Whole
 pub mod Unique

@@ -4,3 +4,5 @@ pub mod Given
 pub mod Cover
 -- Work: what the parts of the work promise each other
 pub mod Work
+-- Paired: the two keys of an interval in one number
+pub mod Paired

@@ -4,6 +4,7 @@ ghost use mathlib.Core.Bool.{true};
 ghost use Prim.Native.Nat.{_<_};
 ghost use Rattle.base.specs.Lists.{All};
 ghost use Rattle.candidate_intervals.specs.Work.{Grouped, GroupAt, PutKeys, Filled, Sorted, Gathered, Front};
+use super::paired::sort_paired;
 use candidate_window::hits::key_of;
 
 // How many intervals have their keys at the front of the two lists, and how many hits were kept.
@@ -109,8 +110,7 @@ fn sort_both(opens: &mut [u64], closes: &mut [u64], n: usize)
     requires { ⌜ Front (now opens) (now closes) n ⌝ }
     ensures { λ _. ⌜ Sorted n (now (opens .entry)) (now (closes .entry)) (now (opens .exit)) (now (closes .exit)) ⌝ }
 {
-    keys::sort(&mut opens[..n]);
-    keys::sort(&mut closes[..n]);
+    sort_paired(&mut opens[..n], &mut closes[..n]);
 }
 
 // The keys of the kept intervals at the fronts, each list in order.

@@ -3,6 +3,7 @@
 mod checks;
 mod cover;
 mod intervals;
+mod paired;
 mod work;
 
 ghost use Rattle.rules.specs.Calls.{IntervalFinderPromise};
