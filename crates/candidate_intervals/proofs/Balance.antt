@@ -18,7 +18,7 @@ use Rattle.rules.specs.Limits.{itemLimit}
 use Rattle.rules.specs.Lists.{filter}
 use Rattle.rules.specs.Finder.{Finder, kept, keyOf, eventsOfHits, hitEvents}
 use Rattle.rules.proofs.FinderKept.{kept-map}
-use Rattle.candidate_intervals.specs.Cover.{eventsOf, Intervals}
+use Rattle.interval_cover.specs.Cover.{eventsOf, Intervals}
 use Rattle.candidate_intervals.specs.Work.{Hit, hitsOf, isForward, openOf, closeOf, intervalsOf}
 
 -- ---- counts of keys

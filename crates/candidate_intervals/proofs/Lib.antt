@@ -1,8 +1,4 @@
 pub mod Checking
-pub mod Holding
-pub mod Cutting
-pub mod Events
-pub mod Sweeping
 pub mod Gathering
 pub mod Pairing
 pub mod Balance

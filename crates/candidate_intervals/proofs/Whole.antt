@@ -23,7 +23,7 @@ use Rattle.candidate_window.specs.declared.work.Found.{Found}
 use Rattle.candidate_window.specs.Given.{lentOf}
 use Rattle.candidate_window.specs.Work.{Room, Listed}
 use Rattle.candidate_intervals.specs.declared.intervals.Kept.{Kept}
-use Rattle.candidate_intervals.specs.Cover.{eventsOf, Intervals}
+use Rattle.interval_cover.specs.Cover.{eventsOf, Intervals}
 use Rattle.candidate_intervals.specs.Work.{Hit, hitsOf, openOf, closeOf, intervalsOf, Gathered, Accepted, Worked}
 use Rattle.candidate_intervals.proofs.Gathering.{hits-length}
 use Rattle.candidate_intervals.proofs.Balance.{intervals-balanced, intervals-good, events-of}

@@ -1,7 +1,5 @@
 -- Given: the call's lists as the rules take them
 pub mod Given
--- Cover: what the parts of the sweep over starts and ends promise each other
-pub mod Cover
 -- Work: what the parts of the work promise each other
 pub mod Work
 -- Paired: the two keys of an interval in one number

@@ -34,7 +34,7 @@ pub fn work(
 {
     let kept = super::intervals::gather(groups, contigs, starts, ends, threshold, opens, closes);
     let n = kept.intervals;
-    let count = super::cover::list(
+    let count = interval_cover::list(
         &opens[..n],
         &closes[..n],
         minimum as usize,

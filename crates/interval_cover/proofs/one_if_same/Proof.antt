@@ -3,8 +3,8 @@ use mathlib.Core.Path.{sym, ap, _∙_}
 use native.Mathlib.Omega.{arith}
 use Rattle.base.specs.Lists.{hit}
 use Rattle.base.proofs.Lists.{hit-same, hit-other}
-use Rattle.candidate_intervals.proofs.cover.one_if_same.Statement.{statement}
-use Rattle.candidate_intervals.proofs.cover.one_if_same.Tie as tie
+use Rattle.interval_cover.proofs.one_if_same.Statement.{statement}
+use Rattle.interval_cover.proofs.one_if_same.Tie as tie
 
 returns : tie.Need-returns
 returns c = let a = c .before .args in (sym (ap (hit (a .x)) (sym (c .if1 .taken)) ∙ hit-same (a .x)), omega arith)

@@ -8,11 +8,11 @@ use native.Mathlib.Omega.{arith}
 use denote.Ref.{now}
 use lib.ListN.{length, getD}
 use Rattle.candidate_window.specs.Work.{Room}
-use Rattle.candidate_intervals.specs.Cover.{Cut, Sweeping}
-use Rattle.candidate_intervals.proofs.Cutting.{amid-end, amid-stop, nextKey, next-close}
-use Rattle.candidate_intervals.proofs.Sweeping.{Added, Closing, sweeping-end, position-extending, position-added, closing-start, closing-step, opening-start, sweeping-again, position-passed}
-use Rattle.candidate_intervals.proofs.cover.sweep.Statement.{statement}
-use Rattle.candidate_intervals.proofs.cover.sweep.Tie as tie
+use Rattle.interval_cover.specs.Cover.{Cut, Sweeping}
+use Rattle.interval_cover.proofs.Cutting.{amid-end, amid-stop, nextKey, next-close}
+use Rattle.interval_cover.proofs.Sweeping.{Added, Closing, sweeping-end, position-extending, position-added, closing-start, closing-step, opening-start, sweeping-again, position-passed}
+use Rattle.interval_cover.proofs.sweep.Statement.{statement}
+use Rattle.interval_cover.proofs.sweep.Tie as tie
 
 abbrev Inv-ends : tie.InvT-ends
 Inv-ends opens closes minimum seqs lows highs n held key j₀ at j =

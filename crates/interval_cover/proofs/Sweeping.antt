@@ -19,11 +19,11 @@ use Rattle.keys.specs.Lists.{under, below}
 use Rattle.rules.specs.Finder.{Candidate, keyContig, keyAt, joins, joined, joinAll, coveredTo, coveredFrom}
 use Rattle.rules.proofs.FinderCovered.{active-start, active-end, covered-none, covered-here, covered-move, covered-start}
 use Rattle.candidate_window.specs.Work.{rangeOf, Room}
-use Rattle.candidate_intervals.specs.declared.cover.Held.{Held}
-use Rattle.candidate_intervals.specs.Cover.{eventsOf, left, all, Intervals, Between, stretch, Extending, Extended, Cut, Holding, Sweeping, Swept}
-use Rattle.candidate_intervals.proofs.Holding.{holding-start, holding-skip, holding-last, holding-none, extended-holding, cases}
-use Rattle.candidate_intervals.proofs.Cutting.{cut-is, Amid, cut-amid, amid-step, nextKey, next-open-le, next-close-le, next-is}
-use Rattle.candidate_intervals.proofs.Events.{left-close, left-open, left-none}
+use Rattle.interval_cover.specs.declared.Held.{Held}
+use Rattle.interval_cover.specs.Cover.{eventsOf, left, all, Intervals, Between, stretch, Extending, Extended, Cut, Holding, Sweeping, Swept}
+use Rattle.interval_cover.proofs.Holding.{holding-start, holding-skip, holding-last, holding-none, extended-holding, cases}
+use Rattle.interval_cover.proofs.Cutting.{cut-is, Amid, cut-amid, amid-step, nextKey, next-open-le, next-close-le, next-is}
+use Rattle.interval_cover.proofs.Events.{left-close, left-open, left-none}
 
 -- at a position p, after what is covered up to it was added
 pub record Added (minimum : ℕ) (opens closes cs₀ ss₀ es₀ cs ss es : List ℕ) (held : Held) (p i j : ℕ) : Type 0 where

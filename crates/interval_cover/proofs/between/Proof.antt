@@ -2,9 +2,9 @@
 use borrow.Author.Needs.{needs}
 use Prim.Native.Nat.{_-_}
 use native.Mathlib.Omega.{arith}
-use Rattle.candidate_intervals.proofs.Sweeping.{not-first}
-use Rattle.candidate_intervals.proofs.cover.between.Statement.{statement}
-use Rattle.candidate_intervals.proofs.cover.between.Tie as tie
+use Rattle.interval_cover.proofs.Sweeping.{not-first}
+use Rattle.interval_cover.proofs.between.Statement.{statement}
+use Rattle.interval_cover.proofs.between.Tie as tie
 
 contig-of-requires : tie.Need-contig-of-requires
 contig-of-requires c κs = search needs

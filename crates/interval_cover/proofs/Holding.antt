@@ -13,8 +13,8 @@ use Rattle.rules.proofs.FinderJoin.{join-none, join-first}
 use Rattle.rules.proofs.FinderCovered.{to-below, to-covered}
 use Rattle.candidate_window.specs.Work.{rangeOf, Put, Listing, Listed}
 use Rattle.candidate_window.proofs.Listing.{listing-join, listing-push, listing-end}
-use Rattle.candidate_intervals.specs.declared.cover.Held.{Held}
-use Rattle.candidate_intervals.specs.Cover.{Between, stretch, Kept, Holds, Extended, Holding}
+use Rattle.interval_cover.specs.declared.Held.{Held}
+use Rattle.interval_cover.specs.Cover.{Between, stretch, Kept, Holds, Extended, Holding}
 
 module _ {whole : List Candidate} {cs₀ ss₀ es₀ : List ℕ} where
   -- before anything came

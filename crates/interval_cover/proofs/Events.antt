@@ -11,7 +11,7 @@ use Rattle.base.specs.Lists.{All, Asc}
 use Rattle.base.specs.Sort.{insert, sortOf}
 use Rattle.base.proofs.Lists.{all-index, all-append, asc-at}
 use Rattle.base.proofs.Sort.{all-sort, asc-sort, insert-front, sort-mid}
-use Rattle.candidate_intervals.specs.Cover.{eventsOf, left}
+use Rattle.interval_cover.specs.Cover.{eventsOf, left}
 
 abbrev openEvent : ℕ → ℕ
 openEvent k = k * 2 + 1

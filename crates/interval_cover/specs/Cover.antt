@@ -10,7 +10,7 @@ use Rattle.keys.specs.Lists.{below}
 use Rattle.rules.specs.Limits.{itemLimit}
 use Rattle.rules.specs.Finder.{Candidate, keyContig, keyAt, joins, joined, joinAll, coveredFrom, covered}
 use Rattle.candidate_window.specs.Work.{rangeOf, Put, Listing, Listed}
-use Rattle.candidate_intervals.specs.declared.cover.Held.{Held}
+use Rattle.interval_cover.specs.declared.Held.{Held}
 
 -- the rules' events of these starts and ends
 unfoldable pub eventsOf : List ℕ → List ℕ → List ℕ

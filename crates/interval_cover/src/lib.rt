@@ -6,7 +6,7 @@ ghost use lib.ListN.{length};
 ghost use Rattle.base.specs.Lists.{hit};
 ghost use Rattle.rules.specs.Finder.{covered, joinAll};
 ghost use Rattle.candidate_window.specs.Work.{rangeOf, Room, Listed};
-ghost use Rattle.candidate_intervals.specs.Cover.{Between, stretch, Extending, Extended, Intervals, eventsOf, Sweeping, Swept};
+ghost use Rattle.interval_cover.specs.Cover.{Between, stretch, Extending, Extended, Intervals, eventsOf, Sweeping, Swept};
 use candidate_window::candidates::L1Candidate;
 use candidate_window::candidates::joined;
 use candidate_window::candidates::joins;

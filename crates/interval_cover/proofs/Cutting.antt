@@ -14,7 +14,7 @@ use Rattle.base.proofs.Lists.{asc-at}
 use Rattle.base.proofs.Order.{lt-or-ge, le-or-le}
 use Rattle.keys.specs.Lists.{below}
 use Rattle.keys.proofs.Searching.{below-is}
-use Rattle.candidate_intervals.specs.Cover.{Cut}
+use Rattle.interval_cover.specs.Cover.{Cut}
 
 pub cut-is : (xs : List ℕ) (x i : ℕ) → Asc xs → Cut xs x i → below x xs ≡ i
 cut-is xs x i asc c =

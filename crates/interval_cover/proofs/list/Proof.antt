@@ -1,8 +1,8 @@
 -- `list` writes the range that the sweep still holds.
 use borrow.Author.Needs.{needs}
 use native.Mathlib.Omega.{arith}
-use Rattle.candidate_intervals.proofs.cover.list.Statement.{statement}
-use Rattle.candidate_intervals.proofs.cover.list.Tie as tie
+use Rattle.interval_cover.proofs.list.Statement.{statement}
+use Rattle.interval_cover.proofs.list.Tie as tie
 
 sweep-requires : tie.Need-sweep-requires
 sweep-requires c κs = search needs

@@ -2,11 +2,11 @@
 use borrow.Author.Needs.{needs}
 use mathlib.Core.Path.{refl, sym, ap, _∙_}
 use Prim.Native.Nat.{_≤_}
-use Rattle.candidate_intervals.proofs.Holding.{extended-nothing, extended-first, extended-join, extended-push}
+use Rattle.interval_cover.proofs.Holding.{extended-nothing, extended-first, extended-join, extended-push}
 use Rattle.rules.specs.Finder.{joins, joined}
 use Rattle.candidate_window.specs.Work.{rangeOf}
-use Rattle.candidate_intervals.proofs.cover.extend.Statement.{statement}
-use Rattle.candidate_intervals.proofs.cover.extend.Tie as tie
+use Rattle.interval_cover.proofs.extend.Statement.{statement}
+use Rattle.interval_cover.proofs.extend.Tie as tie
 
 -- the entry, from where the range to add is made
 abbrev st : tie.After-between → tie.Start

@@ -6,11 +6,11 @@ use mathlib.Core.Logic.{⊎-elim}
 use native.Mathlib.Omega.{arith}
 use denote.Ref.{now}
 use lib.ListN.{length}
-use Rattle.candidate_intervals.specs.Cover.{Cut, Sweeping}
-use Rattle.candidate_intervals.proofs.Cutting.{amid-end, amid-stop, nextKey, next-both}
-use Rattle.candidate_intervals.proofs.Sweeping.{Added, Closing, Opening, sweeping-start, sweeping-order, sweeping-starts, position-extending, position-added, closing-start, closing-step, closing-first, closing-here, closing-then, opening-start, opening-step, opening-first, opening-here, opening-then, sweeping-again, position-passed}
-use Rattle.candidate_intervals.proofs.cover.pass_starts.Statement.{statement}
-use Rattle.candidate_intervals.proofs.cover.pass_starts.Tie as tie
+use Rattle.interval_cover.specs.Cover.{Cut, Sweeping}
+use Rattle.interval_cover.proofs.Cutting.{amid-end, amid-stop, nextKey, next-both}
+use Rattle.interval_cover.proofs.Sweeping.{Added, Closing, Opening, sweeping-start, sweeping-order, sweeping-starts, position-extending, position-added, closing-start, closing-step, closing-first, closing-here, closing-then, opening-start, opening-step, opening-first, opening-here, opening-then, sweeping-again, position-passed}
+use Rattle.interval_cover.proofs.pass_starts.Statement.{statement}
+use Rattle.interval_cover.proofs.pass_starts.Tie as tie
 
 abbrev Inv-ends : tie.InvT-ends
 Inv-ends opens closes minimum seqs lows highs n held key i j₀ start end at j =

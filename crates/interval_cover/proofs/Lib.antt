@@ -1,0 +1,4 @@
+pub mod Holding
+pub mod Cutting
+pub mod Events
+pub mod Sweeping
