@@ -14,6 +14,7 @@ use Rattle.base.specs.Sort.{insert, sortOf}
 use Rattle.base.proofs.Order.{lt-or-ge, le-or-le}
 use Rattle.base.proofs.Sort.{asc-sort, length-sort, sort-mid, sort-append, sort-map}
 use Rattle.keys.specs.Lists.{under, below}
+use Rattle.keys.proofs.Searching.{under-yes, under-no}
 use Rattle.rules.specs.Limits.{itemLimit}
 use Rattle.rules.specs.Lists.{filter}
 use Rattle.rules.specs.Finder.{Finder, kept, keyOf, eventsOfHits, hitEvents}
@@ -22,14 +23,6 @@ use Rattle.interval_cover.specs.Cover.{eventsOf, Intervals}
 use Rattle.candidate_intervals.specs.Work.{Hit, hitsOf, isForward, openOf, closeOf, intervalsOf}
 
 -- ---- counts of keys
-
-under-yes : (x y : ℕ) → y < x → under x y ≡ 1
-unfolding under pick
-under-yes x y l = rw (lt-ltb y x l)
-
-under-no : (x y : ℕ) → x ≤ y → under x y ≡ 0
-unfolding under pick
-under-no x y l = rw (le-ltb y x l)
 
 -- the order does not count
 below-insert : (x y : ℕ) (ys : List ℕ) → below x (insert y ys) ≡ under x y + below x ys

@@ -9,6 +9,7 @@ use native.Mathlib.Omega.{arith}
 use lib.ListN.{length}
 use Rattle.base.proofs.Order.{lt-or-ge}
 use Rattle.rules.specs.Finder.{Candidate, joins, joined, joinAll, coveredTo}
+use Rattle.rules.proofs.Score.{cases}
 use Rattle.rules.proofs.FinderJoin.{join-none, join-first}
 use Rattle.rules.proofs.FinderCovered.{to-below, to-covered}
 use Rattle.candidate_window.specs.Work.{rangeOf, Put, Listing, Listed}
@@ -141,10 +142,6 @@ module _ {minimum active key next : ℕ} {held : Held} {cs ss es : List ℕ} whe
       }
 
 -- ---- and what each leaves to come
-
-pub cases : (b : Bool) → (b ≡ true) ⊎ (b ≡ false)
-cases true = inl refl
-cases false = inr refl
 
 -- What is added from a key to before the next: nothing, or the stretch, as the rules say.
 module _ {minimum active key next : ℕ} {held : Held} {cs ss es cs′ ss′ es′ : List ℕ} {r : Held} (x : Extended minimum active key next held cs ss es cs′ ss′ es′ r) (between : minimum ≤ active → Between key next) where

@@ -17,11 +17,12 @@ use Rattle.base.proofs.Lists.{hit-same, hit-other}
 use Rattle.base.proofs.Order.{lt-or-ge, eq-or-ne}
 use Rattle.keys.specs.Lists.{under, below}
 use Rattle.rules.specs.Finder.{Candidate, keyContig, keyAt, joins, joined, joinAll, coveredTo, coveredFrom}
+use Rattle.rules.proofs.Score.{cases}
 use Rattle.rules.proofs.FinderCovered.{active-start, active-end, covered-none, covered-here, covered-move, covered-start}
 use Rattle.candidate_window.specs.Work.{rangeOf, Room}
 use Rattle.interval_cover.specs.declared.Held.{Held}
 use Rattle.interval_cover.specs.Cover.{eventsOf, left, all, Intervals, Between, stretch, Extending, Extended, Cut, Holding, Sweeping, Swept}
-use Rattle.interval_cover.proofs.Holding.{holding-start, holding-skip, holding-last, holding-none, extended-holding, cases}
+use Rattle.interval_cover.proofs.Holding.{holding-start, holding-skip, holding-last, holding-none, extended-holding}
 use Rattle.interval_cover.proofs.Cutting.{cut-is, Amid, cut-amid, amid-step, nextKey, next-open-le, next-close-le, next-is}
 use Rattle.interval_cover.proofs.Events.{left-close, left-open, left-none}
 

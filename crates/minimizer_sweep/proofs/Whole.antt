@@ -10,6 +10,7 @@ use Rattle.base.specs.declared.Refusal.{Refusal}
 use Rattle.base.specs.declared.Verdict.{Verdict}
 use Rattle.base.specs.declared.Verdict.the-variants.{Fine, No}
 use Rattle.base.specs.declared.SweepAnswer.{SweepAnswer}
+use Rattle.base.proofs.Verdicts.{or-fine}
 use Rattle.rules.specs.Accepted.{SweepAccepted, SweepFits}
 use Rattle.rules.specs.Checks.{ceil64}
 use Rattle.rules.specs.Sweep.{Sweep}
@@ -17,7 +18,7 @@ use Rattle.rules.specs.Place.{minimizerAnswer}
 use Rattle.rules.specs.Refusals.{need, minimizerInputIn, minimizerVerdict, sweepAnswerOf, minimizerCall, minimizerScored, workLeft}
 use Rattle.rules.specs.Told.{toldSweep}
 use Rattle.rules.specs.Calls.{SweepLent, sweepRoomOf, SweepLeft, MinimizerPromise}
-use Rattle.rules.proofs.Accepted.{both, minimizer-accepted, sweep-fits}
+use Rattle.rules.proofs.Accepted.{minimizer-accepted, sweep-fits}
 use Rattle.rules.proofs.Minimizer.{minimizer-demand-3}
 use Rattle.sweep.specs.Beginning.{Clear}
 use Rattle.minimizer_work.specs.Work.{Ready}
@@ -35,11 +36,11 @@ module _ (s : Sweep) (before : SweepLent) where
   module _ (fine : verdict ≡ Fine) where
     accepted : SweepAccepted (s .query) (s .hashes) (s .starts) (length (s .identities)) (length (s .uppers)) (s .settings .kmer)
     unfolding minimizerVerdict minimizerInputIn
-    accepted = minimizer-accepted (s .query) (s .hashes) (s .starts) (length (s .identities)) (length (s .uppers)) (s .settings .kmer) (s .window) (both _ _ fine .0) .0
+    accepted = minimizer-accepted (s .query) (s .hashes) (s .starts) (length (s .identities)) (length (s .uppers)) (s .settings .kmer) (s .window) (or-fine _ _ fine .0) .0
 
     pub fine-fits : SweepFits m (length (before .hashes)) (length (before .counts)) (length (before .coords)) (length (before .words)) (length (before .summary))
     unfolding minimizerVerdict need sweepRoomOf
-    fine-fits = sweep-fits m (length (before .hashes)) (length (before .counts)) (length (before .coords)) (length (before .words)) (length (before .summary)) (both _ _ fine .1)
+    fine-fits = sweep-fits m (length (before .hashes)) (length (before .counts)) (length (before .coords)) (length (before .words)) (length (before .summary)) (or-fine _ _ fine .1)
 
     pub fine-ready : Ready (s .query) (s .hashes) (s .starts)
     fine-ready = let a = accepted in record { few-hashes = a .few-hashes; few-items = a .few-items; parallel = a .same-starts; query-asc = a .query-ascends; starts-asc = a .starts-ascend }

@@ -11,7 +11,6 @@ use Rattle.base.specs.Pick.{pick}
 use Rattle.base.specs.declared.Verdict.the-variants.{Fine}
 use Rattle.base.proofs.OrderChecks.{order-strict, order-asc}
 use Rattle.base.proofs.Verdicts.{or-fine, stop-fine, skip-fine}
-pub use Rattle.base.proofs.Verdicts.{or-fine as both}
 use Rattle.rules.specs.Lists.{member}
 use Rattle.rules.specs.Limits.{insertKind}
 use Rattle.rules.specs.Checks.{firstMissing, firstBadStep, minimizerInput, intervalInput, sweepNeeds, keysNeed, scriptInput, scriptMembers, scriptNeeds, minimizerFinderInput, intervalFinderInput, finderNeeds, endKeysNeed}

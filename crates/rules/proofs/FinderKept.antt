@@ -13,8 +13,9 @@ use lib.Seq.{drop-cons, drop-drop, length-take-le}
 use borrow.Author.Tests.{lt-ltb, le-ltb}
 use Rattle.base.specs.Lists.{All}
 use Rattle.base.specs.Pick.{pick}
+use Rattle.base.proofs.Lists.{map-take, map-drop}
 use Rattle.rules.specs.Lists.{filter, sum}
-use Rattle.rules.specs.Finder.{Finder, kept, seedHits, keyOf, keysOf}
+use Rattle.rules.specs.Finder.{kept, keyOf, keysOf}
 
 -- the keys, by the index
 pub keys-length : (cs ps : List ℕ) → length cs ≡ length ps → length (keysOf cs ps) ≡ length cs
@@ -80,22 +81,12 @@ kept-all {A} threshold (g ∷ gs) hits short e =
     (ap (λ (l : List A). take g hits ++ l) (kept-all threshold gs (drop g hits) (short .1) (omega (arith, length-drop g hits))) ∙ take-append-drop g hits)
 
 -- hits as something else are kept alike
-take-map : {A B : Type 0} (f : A → B) (n : ℕ) (xs : List A) → take n (map f xs) ≡ map f (take n xs)
-take-map f zero xs = refl
-take-map f (suc n) [] = refl
-take-map f (suc n) (x ∷ xs) = ap (λ (l : List _). f x ∷ l) (take-map f n xs)
-
-drop-map : {A B : Type 0} (f : A → B) (n : ℕ) (xs : List A) → drop n (map f xs) ≡ map f (drop n xs)
-drop-map f zero xs = refl
-drop-map f (suc n) [] = refl
-drop-map f (suc n) (x ∷ xs) = drop-map f n xs
-
 pub kept-map : {A B : Type 0} (f : A → B) (threshold : ℕ) (groups : List ℕ) (hits : List A) → kept threshold groups (map f hits) ≡ map f (kept threshold groups hits)
 unfolding kept pick
 kept-map f threshold [] hits = refl
 kept-map {A} {B} f threshold (g ∷ gs) hits =
-    ap (λ (l : List B). pick (ltb g threshold) (take g (map f hits)) [] ++ l) (ap (kept threshold gs) (drop-map f g hits) ∙ kept-map f threshold gs (drop g hits)) ∙ one (ltb g threshold)
+    ap (λ (l : List B). pick (ltb g threshold) (take g (map f hits)) [] ++ l) (ap (kept threshold gs) (sym (map-drop f g hits)) ∙ kept-map f threshold gs (drop g hits)) ∙ one (ltb g threshold)
   where
     one : (t : Bool) → pick t (take g (map f hits)) [] ++ map f (kept threshold gs (drop g hits)) ≡ map f (pick t (take g hits) [] ++ kept threshold gs (drop g hits))
-    one true = ap (λ (l : List B). l ++ map f (kept threshold gs (drop g hits))) (take-map f g hits) ∙ sym (map-append f (take g hits) (kept threshold gs (drop g hits)))
+    one true = ap (λ (l : List B). l ++ map f (kept threshold gs (drop g hits))) (sym (map-take f g hits)) ∙ sym (map-append f (take g hits) (kept threshold gs (drop g hits)))
     one false = refl
