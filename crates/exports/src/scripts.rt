@@ -1,7 +1,8 @@
 // The script.
 ghost use mathlib.Core.Path.{_≡_};
 ghost use Rattle.rules.specs.Told.{toldScript};
-ghost use Rattle.script.specs.Given.{scriptOf, lentOf};
+ghost use Rattle.script_work.specs.Work.{scriptOf};
+ghost use Rattle.script.specs.Given.{lentOf};
 ghost use Rattle.exports.specs.Script.{outOf, Exported};
 use base::ScriptAnswer;
 

@@ -31,7 +31,7 @@ use Rattle.rules.specs.Accepted.{ScriptFits}
 use Rattle.rules.proofs.Accepted.{script-hash, script-step, script-fits}
 use Rattle.rules.proofs.Score.{cases, all-member, getD-member, at-number, number-fits, number-up}
 use Rattle.script.specs.Given.{Sized}
-use Rattle.script.specs.Work.{Placed, Accepted}
+use Rattle.script_work.specs.Work.{Placed, Accepted}
 
 -- A walk, at i: f k is how many pass from k on before the first that fails.
 pub record Passed (f : ℕ → ℕ) (i : ℕ) : Type 0 where

@@ -4,13 +4,8 @@ use mathlib.Core.List.{List}
 use Prim.Native.Nat.{ℕ, _≤_}
 use lib.ListN.{length}
 use Rattle.rules.specs.Limits.{queryLimit, coordLimit, stepLimit}
-use Rattle.rules.specs.Script.{Script}
 use Rattle.rules.specs.Refusals.{ScriptRoom}
 use Rattle.rules.specs.Calls.{ScriptLent}
-
--- the script that is asked for
-abbrev pub scriptOf : (query coords indexes kinds : List ℕ) → Script
-scriptOf query coords indexes kinds = record { query = query; coords = coords; indexes = indexes; kinds = kinds }
 
 -- the lists that are lent
 abbrev pub lentOf : (counts words summary pivots shareds : List ℕ) → ScriptLent

@@ -1,13 +1,13 @@
 // A script of inserts and deletes over the slide mapper: pivot and shared count after each step. The outward call stands here; below it
-// are the checks, which touch no buffer, and the work, which starts and leaves its buffers cleared.
+// are the checks, which touch no buffer; `script_work` does the work, which starts and leaves its buffers cleared.
 mod checks;
 mod walk;
-mod work;
 
 ghost use Prim.Native.Nat.{_≤_};
 ghost use lib.ListN.{length};
 ghost use Rattle.rules.specs.Calls.{ScriptPromise};
-ghost use Rattle.script.specs.Given.{scriptOf, lentOf};
+ghost use Rattle.script_work.specs.Work.{scriptOf};
+ghost use Rattle.script.specs.Given.{lentOf};
 use base::ScriptAnswer;
 use base::Verdict;
 
@@ -45,7 +45,7 @@ fn script_by(
     let m = coords.len();
     let w = (m + 63) / 64;
     let s = (w + 63) / 64;
-    let last = work::clear_and_work(
+    let last = script_work::clear_and_work(
         query,
         coords,
         indexes,

@@ -11,8 +11,8 @@ use Rattle.rules.specs.Checks.{ceil64}
 use Rattle.rules.specs.Script.{Script}
 use Rattle.rules.specs.Refusals.{scriptVerdict}
 use Rattle.rules.specs.Calls.{ScriptLent, scriptRoomOf}
-use Rattle.script.specs.Given.{scriptOf, lentOf}
-use Rattle.script.specs.Work.{Exact}
+use Rattle.script.specs.Given.{lentOf}
+use Rattle.script_work.specs.Work.{scriptOf, Exact}
 use native.Mathlib.Omega.{arith}
 use Rattle.script.proofs.Checking.{fine-fits, fine-few, fine-placed, fine-accepted}
 use Rattle.script.proofs.Whole.{promise-refused, promise-done}

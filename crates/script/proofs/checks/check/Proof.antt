@@ -7,7 +7,8 @@ use Rattle.base.specs.declared.Verdict.the-variants.{Fine}
 use Rattle.base.proofs.Verdicts.{no-fine}
 use Rattle.rules.specs.Script.{Script}
 use Rattle.rules.specs.Refusals.{ScriptRoom}
-use Rattle.script.specs.Given.{scriptOf, roomOf}
+use Rattle.script_work.specs.Work.{scriptOf}
+use Rattle.script.specs.Given.{roomOf}
 use Rattle.script.proofs.Checking.{sizes, orders, members, refused-sizes, refused-orders, refused-members, left-to-needs, sizes-fine, orders-fine}
 use Rattle.script.proofs.checks.check.Statement.{statement}
 use Rattle.script.proofs.checks.check.Tie as tie

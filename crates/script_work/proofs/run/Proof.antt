@@ -3,9 +3,9 @@ use Prim.Native.Nat.{_-_}
 use native.Mathlib.Omega.{arith}
 use borrow.Author.Needs.{needs}
 use lib.ListN.{length}
-use Rattle.script.proofs.Run.{Running, running-start, running-block, running-all, further-whole}
-use Rattle.script.proofs.work.run.Statement.{statement}
-use Rattle.script.proofs.work.run.Tie as tie
+use Rattle.script_work.proofs.Running.{Running, running-start, running-block, running-all, further-whole}
+use Rattle.script_work.proofs.run.Statement.{statement}
+use Rattle.script_work.proofs.run.Tie as tie
 
 abbrev Inv-loop : tie.InvT-loop
 Inv-loop indexes kinds counts₀ words₀ summary₀ pivots₀ shareds₀ at₀ j₀ counts words summary pivots shareds at j =

@@ -1,8 +1,8 @@
 -- `prepare` marks the query and begins: the state is the one that the rules begin with.
 use borrow.Author.Needs.{needs}
-use Rattle.script.proofs.Marks.{begin-blank, begin-begun}
-use Rattle.script.proofs.work.prepare.Statement.{statement}
-use Rattle.script.proofs.work.prepare.Tie as tie
+use Rattle.script_work.proofs.Marks.{begin-blank, begin-begun}
+use Rattle.script_work.proofs.prepare.Statement.{statement}
+use Rattle.script_work.proofs.prepare.Tie as tie
 
 -- the entry, from after the query is marked
 abbrev st : tie.After-mark → tie.Start

@@ -4,9 +4,9 @@ use native.Mathlib.Omega.{arith}
 use borrow.Author.Needs.{needs}
 use denote.Ref.{now}
 use lib.ListN.{length}
-use Rattle.script.proofs.Run.{Running, running-start, next-kind, next-in, next-fits, running-step, running-all}
-use Rattle.script.proofs.work.run_block.Statement.{statement}
-use Rattle.script.proofs.work.run_block.Tie as tie
+use Rattle.script_work.proofs.Running.{Running, running-start, next-kind, next-in, next-fits, running-step, running-all}
+use Rattle.script_work.proofs.run_block.Statement.{statement}
+use Rattle.script_work.proofs.run_block.Tie as tie
 
 abbrev Inv-loop : tie.InvT-loop
 Inv-loop indexes kinds counts₀ words₀ summary₀ pivots₀ shareds₀ from end at₀ j₀ counts words summary pivots shareds at j =

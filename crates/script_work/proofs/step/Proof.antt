@@ -1,8 +1,8 @@
 -- `step` is the rules' `moved`: kind 1 is `insertRef`, and any other `deleteRef`.
 use borrow.Author.Needs.{needs}
-use Rattle.script.proofs.Run.{stepped-insert, stepped-delete}
-use Rattle.script.proofs.work.step.Statement.{statement}
-use Rattle.script.proofs.work.step.Tie as tie
+use Rattle.script_work.proofs.Running.{stepped-insert, stepped-delete}
+use Rattle.script_work.proofs.step.Statement.{statement}
+use Rattle.script_work.proofs.step.Tie as tie
 
 insert-ref-requires : tie.Need-insert-ref-requires
 insert-ref-requires c κs = search needs

@@ -1,8 +1,8 @@
 -- `clear_and_work` clears lists of the needed sizes, which is what `work` asks.
 use borrow.Author.Needs.{needs}
-use Rattle.script.proofs.Whole.{exact-clear}
-use Rattle.script.proofs.work.clear_and_work.Statement.{statement}
-use Rattle.script.proofs.work.clear_and_work.Tie as tie
+use Rattle.script_work.proofs.Whole.{exact-clear}
+use Rattle.script_work.proofs.clear_and_work.Statement.{statement}
+use Rattle.script_work.proofs.clear_and_work.Tie as tie
 
 clear-requires : tie.Need-clear-requires
 clear-requires c κs = search needs

@@ -23,7 +23,7 @@ use Rattle.rules.proofs.Moves.{moved-counts}
 use Rattle.slide_mapper.specs.declared.Slide.{Slide}
 use Rattle.slide_mapper.specs.State.{flagsOf, countsOf, slideOf, Ready, Inserted, Deleted}
 use Rattle.slide_mapper.proofs.State.{counts-at, counts-length, flags-length, flags-set, ready-inserted, ready-deleted}
-use Rattle.script.specs.Work.{Steps, Stepped, lookOf, looksFrom, Underway, Answered, Reached, Further}
+use Rattle.script_work.specs.Work.{Steps, Stepped, lookOf, looksFrom, Underway, Answered, Reached, Further}
 
 -- ---- one step
 

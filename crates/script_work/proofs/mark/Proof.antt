@@ -5,9 +5,9 @@ use native.Mathlib.Omega.{arith}
 use borrow.Author.Needs.{needs}
 use denote.Ref.{now}
 use lib.ListN.{length, getD, length-replicate}
-use Rattle.script.proofs.Marks.{Marking, marking-start, marking-in, marking-step, marking-end}
-use Rattle.script.proofs.work.mark.Statement.{statement}
-use Rattle.script.proofs.work.mark.Tie as tie
+use Rattle.script_work.proofs.Marks.{Marking, marking-start, marking-in, marking-step, marking-end}
+use Rattle.script_work.proofs.mark.Statement.{statement}
+use Rattle.script_work.proofs.mark.Tie as tie
 
 abbrev Inv-loop : tie.InvT-loop
 Inv-loop query coords places counts₀ i₀ counts i = Marking query coords counts i

@@ -29,7 +29,7 @@ use Rattle.summary_bits.proofs.Kept.{clear-summary}
 use Rattle.slide_mapper.specs.declared.Slide.{Slide}
 use Rattle.slide_mapper.specs.State.{flagsOf, countsOf, slideOf, Blank, Ready}
 use Rattle.slide_mapper.proofs.Marked.{ones-flags, ones-counts, ones-length, ones-low, ones-size}
-use Rattle.script.specs.Work.{Sound, Clear, marked, Begun}
+use Rattle.script_work.specs.Work.{Sound, Clear, marked, Begun}
 
 marked-none : (coords : List ℕ) → replicate (length coords) 0 ≡ marked [] coords
 unfolding marked member pick

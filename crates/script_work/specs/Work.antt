@@ -17,6 +17,10 @@ use Rattle.rules.specs.Moves as moves
 use Rattle.slide_mapper.specs.declared.Slide.{Slide}
 use Rattle.slide_mapper.specs.State.{flagsOf, countsOf, slideOf, Ready}
 
+-- the script that is asked for
+abbrev pub scriptOf : (query coords indexes kinds : List ℕ) → Script
+scriptOf query coords indexes kinds = record { query = query; coords = coords; indexes = indexes; kinds = kinds }
+
 -- query and coordinates passed their checks
 pub record Sound (query coords : List ℕ) : Type 0 where
   pub few : length coords ≤ coordLimit

@@ -3,8 +3,8 @@ use mathlib.Core.Path.{_∙_}
 use borrow.Author.Needs.{needs}
 use denote.Ref.{now}
 use Rattle.base.proofs.Buffers.{zeroed-whole}
-use Rattle.script.proofs.work.clear.Statement.{statement}
-use Rattle.script.proofs.work.clear.Tie as tie
+use Rattle.script_work.proofs.clear.Statement.{statement}
+use Rattle.script_work.proofs.clear.Tie as tie
 
 clear-counts-requires : tie.Need-clear-counts-requires
 clear-counts-requires c κs = search needs

@@ -2,10 +2,10 @@
 use borrow.Author.Needs.{needs}
 use denote.Ref.{now}
 use lib.ListN.{length}
-use Rattle.script.specs.Work.{Exact}
-use Rattle.script.proofs.Whole.{clear-exact, exact-kept, exact-clear, start-run, run-answers}
-use Rattle.script.proofs.work.work.Statement.{statement}
-use Rattle.script.proofs.work.work.Tie as tie
+use Rattle.script_work.specs.Work.{Exact}
+use Rattle.script_work.proofs.Whole.{clear-exact, exact-kept, exact-clear, start-run, run-answers}
+use Rattle.script_work.proofs.work.Statement.{statement}
+use Rattle.script_work.proofs.work.Tie as tie
 
 -- the entry, from the first state
 abbrev st : tie.After-prepare → tie.Start

@@ -4,8 +4,7 @@ ghost use mathlib.Core.Path.{_≡_};
 ghost use Prim.Native.Nat.{_+_, _^_, _≤_, _<_};
 ghost use lib.ListN.{length, getD, replicate};
 ghost use Rattle.slide_mapper.specs.State.{flagsOf, slideOf, Ready};
-ghost use Rattle.script.specs.Given.{scriptOf};
-ghost use Rattle.script.specs.Work.{Sound, Placed, Accepted, Exact, Clear, marked, Begun, Stepped, lookOf, looksFrom, Underway, Start, Answered, Further, Worked};
+ghost use Rattle.script_work.specs.Work.{scriptOf, Sound, Placed, Accepted, Exact, Clear, marked, Begun, Stepped, lookOf, looksFrom, Underway, Start, Answered, Further, Worked};
 use base::Coord;
 use slide_mapper::Slide;
 

@@ -1,0 +1,3 @@
+pub mod Marks
+pub mod Running
+pub mod Whole

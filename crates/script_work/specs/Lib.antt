@@ -1,0 +1,2 @@
+-- Work: what the parts of the work promise each other
+pub mod Work
