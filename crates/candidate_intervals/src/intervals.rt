@@ -44,7 +44,7 @@ fn put_group(
     at
 }
 
-// Puts the keys of the intervals of the groups shorter than the threshold at the fronts, group by group.
+// Goes group by group, and passes over those that are not shorter than the threshold.
 fn fill_groups(
     groups: &[u32],
     contigs: &[u32],
@@ -84,7 +84,8 @@ fn none_dropped(groups: &[u32], threshold: u64) -> bool
     (longest as u64) < threshold
 }
 
-// The same. Where no group is dropped all hits are as one group: most groups have a hit or none, so that their ends are costly to tell.
+// Puts the keys of the intervals of the groups shorter than the threshold at the fronts. Where no group is dropped all hits are as one group: most
+// groups have a hit or none, so that their ends are costly to tell.
 fn fill(
     groups: &[u32],
     contigs: &[u32],

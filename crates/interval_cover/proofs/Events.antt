@@ -11,7 +11,7 @@ use Rattle.base.specs.Lists.{All, Asc}
 use Rattle.base.specs.Sort.{insert, sortOf}
 use Rattle.base.proofs.Lists.{all-index, all-append, asc-at}
 use Rattle.base.proofs.Sort.{all-sort, asc-sort, insert-front, sort-mid}
-use Rattle.interval_cover.specs.Cover.{eventsOf, left}
+use Rattle.interval_cover.specs.Cover.{eventsOf, eventsLeft}
 
 abbrev openEvent : ℕ → ℕ
 openEvent k = k * 2 + 1
@@ -36,7 +36,7 @@ first-of : (xs : List ℕ) (x : ℕ) → All (λ y. x ≤ y) xs → insert x (so
 first-of xs x a = insert-front x (sortOf xs) (all-sort (λ y. x ≤ y) xs a) (asc-sort xs)
 
 module _ (opens closes : List ℕ) (asc-opens : Asc opens) (asc-closes : Asc closes) (i j : ℕ) where
-  pub left-close : j < length closes → (i < length opens → getD closes j 0 ≤ getD opens i 0) → left opens closes i j ≡ getD closes j 0 * 2 ∷ left opens closes i (j + 1)
+  pub left-close : j < length closes → (i < length opens → getD closes j 0 ≤ getD opens i 0) → eventsLeft opens closes i j ≡ getD closes j 0 * 2 ∷ eventsLeft opens closes i (j + 1)
   unfolding eventsOf
   left-close l h =
       let e = getD closes j 0 in
@@ -49,7 +49,7 @@ module _ (opens closes : List ℕ) (asc-opens : Asc opens) (asc-closes : Asc clo
       (all-from closes e (j + 1) asc-closes (λ m. asc-at closes asc-closes j (j + 1) (omega arith) m))) in
       ap (λ (x : List ℕ). sortOf (starts ++ map closeEvent x)) cons ∙ sort-mid starts (e * 2) ends ∙ first-of (starts ++ ends) (e * 2) low
 
-  pub left-open : i < length opens → (j < length closes → getD opens i 0 < getD closes j 0) → left opens closes i j ≡ (getD opens i 0 * 2 + 1) ∷ left opens closes (i + 1) j
+  pub left-open : i < length opens → (j < length closes → getD opens i 0 < getD closes j 0) → eventsLeft opens closes i j ≡ (getD opens i 0 * 2 + 1) ∷ eventsLeft opens closes (i + 1) j
   unfolding eventsOf sortOf
   left-open l h =
       let s = getD opens i 0 in
@@ -63,6 +63,6 @@ module _ (opens closes : List ℕ) (asc-opens : Asc opens) (asc-closes : Asc clo
       (all-of (λ y. s + 1 ≤ y) (λ y. s * 2 + 1 ≤ y) closeEvent (λ x m. omega arith) (drop j closes) (all-from closes (s + 1) j asc-closes (λ m. omega (arith, h m)))) in
       ap (λ (x : List ℕ). sortOf (map openEvent x ++ ends)) cons ∙ first-of (starts ++ ends) (s * 2 + 1) low
 
-  pub left-none : length opens ≤ i → length closes ≤ j → left opens closes i j ≡ []
+  pub left-none : length opens ≤ i → length closes ≤ j → eventsLeft opens closes i j ≡ []
   unfolding eventsOf sortOf
   left-none l m = rw (drop-of-length-le opens l, drop-of-length-le closes m)

@@ -21,7 +21,7 @@ use Rattle.rules.proofs.Score.{cases}
 use Rattle.rules.proofs.FinderCovered.{active-start, active-end, covered-none, covered-here, covered-move, covered-start}
 use Rattle.candidate_window.specs.Work.{rangeOf, Room}
 use Rattle.interval_cover.specs.declared.Held.{Held}
-use Rattle.interval_cover.specs.Cover.{eventsOf, left, all, Intervals, Between, stretch, Extending, Extended, Cut, Holding, Sweeping, Swept}
+use Rattle.interval_cover.specs.Cover.{eventsOf, eventsLeft, rangesOf, Intervals, Between, stretch, Extending, Extended, Cut, Holding, Sweeping, Swept}
 use Rattle.interval_cover.proofs.Holding.{holding-start, holding-skip, holding-last, holding-none, extended-holding}
 use Rattle.interval_cover.proofs.Cutting.{cut-is, Amid, cut-amid, amid-step, nextKey, next-open-le, next-close-le, next-is}
 use Rattle.interval_cover.proofs.Events.{left-close, left-open, left-none}
@@ -30,7 +30,7 @@ use Rattle.interval_cover.proofs.Events.{left-close, left-open, left-no
 pub record Added (minimum : ℕ) (opens closes cs₀ ss₀ es₀ cs ss es : List ℕ) (held : Held) (p i j : ℕ) : Type 0 where
   pub opened : Cut opens p i
   pub closed : Cut closes p j
-  pub holding : Holding (all minimum opens closes) (coveredFrom minimum (i - j) p (left opens closes i j)) (rangeOf (held .range)) cs₀ ss₀ es₀ cs ss es (held .count)
+  pub holding : Holding (rangesOf minimum opens closes) (coveredFrom minimum (i - j) p (eventsLeft opens closes i j)) (rangeOf (held .range)) cs₀ ss₀ es₀ cs ss es (held .count)
   pub few : held .count ≤ i
   pub late : (q : ℕ) → joins 1 (rangeOf (held .range)) (stretch p q) ≡ false → i - j < minimum
 
@@ -39,7 +39,7 @@ pub record Closing (minimum : ℕ) (opens closes : List ℕ) (p i j₀ j : ℕ) 
   pub opened : Cut opens p i
   pub closed : Amid closes p j
   pub grown : j₀ ≤ j
-  pub same : coveredFrom minimum (i - j₀) p (left opens closes i j₀) ≡ coveredFrom minimum (i - j) p (left opens closes i j)
+  pub same : coveredFrom minimum (i - j₀) p (eventsLeft opens closes i j₀) ≡ coveredFrom minimum (i - j) p (eventsLeft opens closes i j)
 
 -- and its starts, of which the first is at i₀
 pub record Opening (minimum : ℕ) (opens closes : List ℕ) (p j i₀ i : ℕ) : Type 0 where
@@ -47,7 +47,7 @@ pub record Opening (minimum : ℕ) (opens closes : List ℕ) (p j i₀ i : ℕ) 
   pub closed : Cut closes (p + 1) j
   pub order : j ≤ i₀
   pub grown : i₀ ≤ i
-  pub same : coveredFrom minimum (i₀ - j) p (left opens closes i₀ j) ≡ coveredFrom minimum (i - j) p (left opens closes i j)
+  pub same : coveredFrom minimum (i₀ - j) p (eventsLeft opens closes i₀ j) ≡ coveredFrom minimum (i - j) p (eventsLeft opens closes i j)
 
 -- a range that ends where another starts joins it
 touches : (prev : Candidate) (p q : ℕ) → prev .contig ≡ keyContig p → keyAt p ≤ prev .end + 1 → joins 1 prev (stretch p q) ≡ true
@@ -103,7 +103,7 @@ module _ {minimum : ℕ} {opens closes cs₀ ss₀ es₀ : List ℕ} (iv : Inter
     started = λ l. absurd (omega arith);
     fresh = λ e. refl;
     holding =
-        subst (λ (n : ℕ). Holding (all minimum opens closes) (coveredFrom minimum 0 0 (eventsOf opens closes)) (rangeOf (held .range)) cs₀ ss₀ es₀ cs₀ ss₀ es₀ n) (sym z)
+        subst (λ (n : ℕ). Holding (rangesOf minimum opens closes) (coveredFrom minimum 0 0 (eventsOf opens closes)) (rangeOf (held .range)) cs₀ ss₀ es₀ cs₀ ss₀ es₀ n) (sym z)
         (holding-start (rangeOf (held .range)) (ap (joinAll 1) (sym (covered-start minimum 0 (eventsOf opens closes) positive))));
     few = omega (arith, z);
     room = λ q m. absurd (omega arith);
@@ -125,9 +125,9 @@ module _ {minimum : ℕ} {opens closes cs₀ ss₀ es₀ : List ℕ} (iv : Inter
         let last : i ≡ length opens = omega (arith, s .open-upto) in
         subst (λ (k : ℕ). Sweeping minimum opens closes cs₀ ss₀ es₀ cs ss es held key k j) last s
 
-    pub sweeping-end : length closes ≤ j → Swept (all minimum opens closes) (length opens) cs₀ ss₀ es₀ cs ss es held
+    pub sweeping-end : length closes ≤ j → Swept (rangesOf minimum opens closes) (length opens) cs₀ ss₀ es₀ cs ss es held
     sweeping-end l =
-        let rest : coveredFrom minimum (i - j) key (left opens closes i j) ≡ [] =
+        let rest : coveredFrom minimum (i - j) key (eventsLeft opens closes i j) ≡ [] =
         ap (coveredFrom minimum (i - j) key) (left-none opens closes (iv .asc-opens) (iv .asc-closes) i j (omega (arith, sweeping-order, iv .parallel)) l) ∙ covered-none minimum (i - j) key in
         record {
           few = omega (arith, s .few, s .open-upto);
@@ -186,18 +186,18 @@ module _ {minimum : ℕ} {opens closes cs₀ ss₀ es₀ : List ℕ} (iv : Inter
       }
 
       -- the next event is at this key
-      moved : coveredFrom minimum (i - j) key (left opens closes i j) ≡ coveredTo minimum (i - j) key p ++ coveredFrom minimum (i - j) p (left opens closes i j)
+      moved : coveredFrom minimum (i - j) key (eventsLeft opens closes i j) ≡ coveredTo minimum (i - j) key p ++ coveredFrom minimum (i - j) p (eventsLeft opens closes i j)
       moved = ⊎-elim at-close at-open (lt-or-ge (getD closes j 0) (p + 1))
         where
-          by : (v : ℕ) (vs : List ℕ) → left opens closes i j ≡ v ∷ vs → v / 2 ≡ p
-              → coveredFrom minimum (i - j) key (left opens closes i j) ≡ coveredTo minimum (i - j) key p ++ coveredFrom minimum (i - j) p (left opens closes i j)
+          by : (v : ℕ) (vs : List ℕ) → eventsLeft opens closes i j ≡ v ∷ vs → v / 2 ≡ p
+              → coveredFrom minimum (i - j) key (eventsLeft opens closes i j) ≡ coveredTo minimum (i - j) key p ++ coveredFrom minimum (i - j) p (eventsLeft opens closes i j)
           by v vs a q = rw a (covered-move minimum (i - j) v vs key p q same-contig)
 
-          at-close : getD closes j 0 < p + 1 → coveredFrom minimum (i - j) key (left opens closes i j) ≡ coveredTo minimum (i - j) key p ++ coveredFrom minimum (i - j) p (left opens closes i j)
+          at-close : getD closes j 0 < p + 1 → coveredFrom minimum (i - j) key (eventsLeft opens closes i j) ≡ coveredTo minimum (i - j) key p ++ coveredFrom minimum (i - j) p (eventsLeft opens closes i j)
           at-close m =
               by _ _ (left-close opens closes (iv .asc-opens) (iv .asc-closes) i j l (λ n. omega (arith, under-open n))) (omega (arith, under-close))
 
-          at-open : p + 1 ≤ getD closes j 0 → coveredFrom minimum (i - j) key (left opens closes i j) ≡ coveredTo minimum (i - j) key p ++ coveredFrom minimum (i - j) p (left opens closes i j)
+          at-open : p + 1 ≤ getD closes j 0 → coveredFrom minimum (i - j) key (eventsLeft opens closes i j) ≡ coveredTo minimum (i - j) key p ++ coveredFrom minimum (i - j) p (eventsLeft opens closes i j)
           at-open m =
               ⊎-elim (λ (q : nextKey opens closes i j ≡ getD closes j 0). absurd (omega (arith, e, q)))
               (λ (q : (i < length opens) × (nextKey opens closes i j ≡ getD opens i 0)).
@@ -258,8 +258,8 @@ module _ {minimum : ℕ} {opens closes cs₀ ss₀ es₀ : List ℕ} (iv : Inter
           grown = omega (arith, c .grown);
           same =
               c .same ∙ ap (coveredFrom minimum (i - j) p) (left-close opens closes (iv .asc-opens) (iv .asc-closes) i j l (λ n. omega (arith, e, c .opened .after n))) ∙
-              covered-here minimum (i - j) (getD closes j 0 * 2) (left opens closes i (j + 1)) p (omega (arith, e)) ∙
-              ap (λ (n : ℕ). coveredFrom minimum n p (left opens closes i (j + 1))) (active-end (getD closes j 0) (i - j) ∙ less);
+              covered-here minimum (i - j) (getD closes j 0 * 2) (eventsLeft opens closes i (j + 1)) p (omega (arith, e)) ∙
+              ap (λ (n : ℕ). coveredFrom minimum n p (eventsLeft opens closes i (j + 1))) (active-end (getD closes j 0) (i - j) ∙ less);
         }
 
     -- the next end is passed if it is at the position
@@ -294,8 +294,8 @@ module _ {minimum : ℕ} {opens closes cs₀ ss₀ es₀ : List ℕ} (iv : Inter
           grown = omega (arith, o .grown);
           same =
               o .same ∙ ap (coveredFrom minimum (i - j) p) (left-open opens closes (iv .asc-opens) (iv .asc-closes) i j l (λ n. omega (arith, e, o .closed .after n))) ∙
-              covered-here minimum (i - j) (getD opens i 0 * 2 + 1) (left opens closes (i + 1) j) p (omega (arith, e)) ∙
-              ap (λ (n : ℕ). coveredFrom minimum n p (left opens closes (i + 1) j)) (active-start (getD opens i 0) (i - j) ∙ more);
+              covered-here minimum (i - j) (getD opens i 0 * 2 + 1) (eventsLeft opens closes (i + 1) j) p (omega (arith, e)) ∙
+              ap (λ (n : ℕ). coveredFrom minimum n p (eventsLeft opens closes (i + 1) j)) (active-start (getD opens i 0) (i - j) ∙ more);
         }
 
     -- the next start is passed if it is at the position

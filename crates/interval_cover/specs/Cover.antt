@@ -16,13 +16,13 @@ use Rattle.interval_cover.specs.declared.Held.{Held}
 unfoldable pub eventsOf : List ℕ → List ℕ → List ℕ
 eventsOf opens closes = sortOf (map (λ (k : ℕ). k * 2 + 1) opens ++ map (λ (k : ℕ). k * 2) closes)
 
--- those that are left where i starts and j ends are passed
-abbrev pub left : List ℕ → List ℕ → ℕ → ℕ → List ℕ
-left opens closes i j = eventsOf (drop i opens) (drop j closes)
+-- the events that are left where i starts and j ends are passed
+abbrev pub eventsLeft : List ℕ → List ℕ → ℕ → ℕ → List ℕ
+eventsLeft opens closes i j = eventsOf (drop i opens) (drop j closes)
 
--- all ranges that they give
-abbrev pub all : ℕ → List ℕ → List ℕ → List Candidate
-all minimum opens closes = joinAll 1 (covered minimum (eventsOf opens closes))
+-- the ranges that the minimum or more cover, touching ones joined
+abbrev pub rangesOf : ℕ → List ℕ → List ℕ → List Candidate
+rangesOf minimum opens closes = joinAll 1 (covered minimum (eventsOf opens closes))
 
 -- sorted keys of intervals: as many starts as ends, each end after its start and in its contig. So of the ends at or before a key no more than of the
 -- starts before it, and as many of both before each contig
@@ -90,7 +90,7 @@ pub record Sweeping (minimum : ℕ) (opens closes cs₀ ss₀ es₀ cs ss es : L
   pub close-upto : j ≤ length closes
   pub started : 0 < i → Cut opens (key + 1) i × Cut closes (key + 1) j
   pub fresh : i ≡ 0 → j ≡ 0
-  pub holding : Holding (all minimum opens closes) (coveredFrom minimum (i - j) key (left opens closes i j)) (rangeOf (held .range)) cs₀ ss₀ es₀ cs ss es (held .count)
+  pub holding : Holding (rangesOf minimum opens closes) (coveredFrom minimum (i - j) key (eventsLeft opens closes i j)) (rangeOf (held .range)) cs₀ ss₀ es₀ cs ss es (held .count)
   pub few : held .count ≤ i
   pub room : (q : ℕ) → minimum ≤ i - j → joins 1 (rangeOf (held .range)) (stretch key q) ≡ false → held .count < i
 

@@ -4,9 +4,8 @@ ghost use mathlib.Core.Path.{_≡_};
 ghost use Prim.Native.Nat.{_≤_, _<_, min};
 ghost use lib.ListN.{length};
 ghost use Rattle.base.specs.Lists.{hit};
-ghost use Rattle.rules.specs.Finder.{covered, joinAll};
 ghost use Rattle.candidate_window.specs.Work.{rangeOf, Room, Listed};
-ghost use Rattle.interval_cover.specs.Cover.{Between, stretch, Extending, Extended, Intervals, eventsOf, Sweeping, Swept};
+ghost use Rattle.interval_cover.specs.Cover.{Between, stretch, Extending, Extended, Intervals, rangesOf, Sweeping, Swept};
 use candidate_window::candidates::L1Candidate;
 use candidate_window::candidates::joined;
 use candidate_window::candidates::joins;
@@ -145,7 +144,7 @@ fn sweep(
     highs: &mut [u32],
 ) -> Held
     requires { ⌜ Intervals (now opens) (now closes) × Room (now opens) (now seqs) (now lows) (now highs) × (0 < minimum) ⌝ }
-    ensures { λ r. ⌜ Swept (joinAll 1 (covered minimum (eventsOf (now (opens .entry)) (now (closes .entry))))) (length (now (opens .entry))) (now (seqs .entry)) (now (lows .entry)) (now (highs .entry)) (now (seqs .exit)) (now (lows .exit)) (now (highs .exit)) r ⌝ }
+    ensures { λ r. ⌜ Swept (rangesOf minimum (now (opens .entry)) (now (closes .entry))) (length (now (opens .entry))) (now (seqs .entry)) (now (lows .entry)) (now (highs .entry)) (now (seqs .exit)) (now (lows .exit)) (now (highs .exit)) r ⌝ }
 {
     let n = opens.len();
     let passed = pass_starts(opens, closes, minimum, seqs, lows, highs);
@@ -177,7 +176,7 @@ pub fn list(
     highs: &mut [u32],
 ) -> usize
     requires { ⌜ Intervals (now opens) (now closes) × Room (now opens) (now seqs) (now lows) (now highs) × (0 < minimum) ⌝ }
-    ensures { λ r. ⌜ Listed (joinAll 1 (covered minimum (eventsOf (now (opens .entry)) (now (closes .entry))))) (now (seqs .entry)) (now (lows .entry)) (now (highs .entry)) (now (seqs .exit)) (now (lows .exit)) (now (highs .exit)) r × (r ≤ length (now (opens .entry))) ⌝ }
+    ensures { λ r. ⌜ Listed (rangesOf minimum (now (opens .entry)) (now (closes .entry))) (now (seqs .entry)) (now (lows .entry)) (now (highs .entry)) (now (seqs .exit)) (now (lows .exit)) (now (highs .exit)) r × (r ≤ length (now (opens .entry))) ⌝ }
 {
     let held = sweep(opens, closes, minimum, seqs, lows, highs);
     let count = held.count;
