@@ -1,11 +1,8 @@
 // The kept intervals as two lists of keys, those of their starts and those of their ends. Empty intervals are passed over.
-ghost use mathlib.Core.Path.{_≡_};
-ghost use mathlib.Core.Bool.{true};
-ghost use Prim.Native.Nat.{_<_};
-ghost use Rattle.base.specs.Lists.{All};
 ghost use Rattle.candidate_intervals.specs.Work.{Grouped, GroupAt, PutKeys, Filled, Sorted, Gathered, Front};
 use super::paired::sort_paired;
 use candidate_window::hits::key_of;
+use candidate_window::hits::none_dropped;
 
 // How many intervals have their keys at the front of the two lists, and how many hits were kept.
 pub struct Kept {
@@ -76,16 +73,7 @@ fn fill_groups(
     Kept { intervals, hits }
 }
 
-// Whether each group is shorter than the threshold, which the longest tells with no branch on the others.
-fn none_dropped(groups: &[u32], threshold: u64) -> bool
-    ensures { λ r. ⌜ (r ≡ true → All (λ g. g < threshold) (now (groups .entry))) ⌝ }
-{
-    let longest = base::largest(groups);
-    (longest as u64) < threshold
-}
-
-// Puts the keys of the intervals of the groups shorter than the threshold at the fronts. Where no group is dropped all hits are as one group: most
-// groups have a hit or none, so that their ends are costly to tell.
+// Puts the keys of the intervals of the groups shorter than the threshold at the fronts, as one group where none is dropped.
 fn fill(
     groups: &[u32],
     contigs: &[u32],

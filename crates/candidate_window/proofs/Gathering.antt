@@ -1,20 +1,22 @@
 -- Keys of the kept hits at the front of a list: a group's keys are put after those that are there, one store a turn, and what the groups so far gave with
--- what the others will give makes the whole. A key is never put past the hits that were read, so there is room. Assumes nothing.
+-- what the others will give makes the whole. A key is never put past the hits that were read, so there is room. Where no group is dropped all hits are as
+-- one group. Assumes nothing.
 use mathlib.Core.Path.{_≡_, refl, sym, ap, _∙_}
 use mathlib.Core.List.{List, [], _++_, append-nil, append-assoc}
 use Prim.Native.Nat.{ℕ, _+_, _-_, _≤_, _<_}
 use native.Mathlib.Numerals.{add-one}
 use native.Mathlib.Omega.{arith}
-use lib.ListN.{length, getD, set, take, drop, length-append, length-drop}
-use lib.Seq.{paste, paste-zero, paste-suc, length-paste, take-at, drop-at, drop-append-add, drop-drop, getD-drop, length-take-le}
+use lib.ListN.{length, getD, set, take, drop, length-append, length-drop, drop-of-length-le}
+use lib.Seq.{paste, paste-zero, paste-suc, length-paste, take-at, drop-at, drop-append-add, drop-drop, getD-drop, length-take-le, take-all}
 use Rattle.base.specs.Buffers.{over}
+use Rattle.base.specs.Lists.{All}
 use Rattle.base.specs.Sort.{sortOf}
 use Rattle.base.proofs.Sort.{length-sort}
 use Rattle.keys.specs.Lists.{Fronted}
 use Rattle.rules.specs.Lists.{sum}
 use Rattle.rules.specs.Finder.{kept, keyOf, keysOf}
-use Rattle.rules.proofs.FinderKept.{keys-length, keys-at, sum-next, keptFrom, kept-keep, kept-pass, kept-end}
-use Rattle.candidate_window.specs.Work.{Grouped, GroupAt}
+use Rattle.rules.proofs.FinderKept.{keys-length, keys-at, sum-next, keptFrom, kept-keep, kept-pass, kept-end, kept-all}
+use Rattle.candidate_window.specs.Work.{Grouped, GroupAt, Parallel}
 
 -- ---- one group, after k of its keys
 
@@ -138,6 +140,26 @@ filling-group {threshold} {groups} {cs} {ps} {entry} {now} {g} {at} {n} a f l =
     let h = filling-within f l in
     let k = keys-length cs ps (a .parallel) in
     record { parallel = a .parallel; within = omega arith; room = omega (arith, f .few, f .same, a .room) }
+
+-- ---- all hits as one group, where none is dropped
+
+pub flat-put : {cs ps entry : List ℕ} → Parallel cs ps entry → paste entry 0 (drop 0 (keysOf cs ps)) (length cs) ≡ keysOf cs ps
+flat-put {cs} {ps} {entry} a =
+    let short : length entry ≤ 0 + length cs = omega (arith, a .exact) in
+    ap (λ (x : List ℕ). take (length cs) (keysOf cs ps) ++ x) (drop-of-length-le entry short) ∙ append-nil (take (length cs) (keysOf cs ps)) ∙
+    take-all (length cs) (keysOf cs ps) (omega (arith, keys-length cs ps (a .parallel)))
+
+pub flat-parallel : {groups cs ps entry : List ℕ} → Grouped groups cs ps entry → Parallel cs ps (take (length cs) entry)
+flat-parallel {groups} {cs} {ps} {entry} a = record { few = a .few; parallel = a .parallel; exact = length-take-le (length cs) entry (a .room) }
+
+pub flat-fronted : (threshold : ℕ) {groups cs ps entry part : List ℕ} → Grouped groups cs ps entry → All (λ g. g < threshold) groups → part ≡ sortOf (keysOf cs ps)
+    → Fronted (sortOf (kept threshold groups (keysOf cs ps))) entry (part ++ drop (length cs) entry) (length cs)
+flat-fronted threshold {groups} {cs} {ps} {entry} {part} a short sorted =
+    let hits = keysOf cs ps in
+    let long : length hits ≡ length cs = keys-length cs ps (a .parallel) in
+    let many : length cs ≡ length (sortOf hits) = sym (length-sort hits ∙ long) in
+    rw (kept-all threshold groups hits short (a .all ∙ sym long))
+    (record { many = many; is = ap (λ (x : List ℕ). x ++ drop (length cs) entry) sorted ∙ ap (λ (k : ℕ). sortOf hits ++ drop k entry) many })
 
 -- ---- the front sorted
 

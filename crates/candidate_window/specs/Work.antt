@@ -29,6 +29,12 @@ pub record Grouped (groups contigs positions keys : List ℕ) : Type 0 where
   pub all : sum groups ≡ length contigs
   pub room : length contigs ≤ length keys
 
+-- a key for each hit
+pub record Parallel (contigs positions keys : List ℕ) : Type 0 where
+  pub few : length contigs ≤ itemLimit
+  pub parallel : length contigs ≡ length positions
+  pub exact : length keys ≡ length contigs
+
 -- `count` hits from `from` on, and room for their keys at n
 pub record GroupAt (contigs positions keys : List ℕ) (from count n : ℕ) : Type 0 where
   pub parallel : length contigs ≡ length positions

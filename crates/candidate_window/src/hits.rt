@@ -1,11 +1,14 @@
 // The kept hits as keys: contig × 2^32 + position, so that keys ascend by contig, then by position.
 ghost use mathlib.Core.Path.{_≡_};
+ghost use mathlib.Core.Bool.{true};
+ghost use Prim.Native.Nat.{_<_};
 ghost use lib.ListN.{drop};
 ghost use lib.Seq.{paste};
+ghost use Rattle.base.specs.Lists.{All};
 ghost use Rattle.base.specs.Sort.{sortOf};
 ghost use Rattle.keys.specs.Lists.{Fronted};
 ghost use Rattle.rules.specs.Finder.{kept, keyOf, keyContig, keyAt, keysOf};
-ghost use Rattle.candidate_window.specs.Work.{Grouped, GroupAt};
+ghost use Rattle.candidate_window.specs.Work.{Grouped, GroupAt, Parallel};
 
 pub fn key_of(contig: u32, at: u32) -> u64
     ensures { λ r. ⌜ r ≡ keyOf contig at ⌝ }
@@ -46,6 +49,15 @@ fn put_group(
     }
 }
 
+// Whether each group is shorter than the threshold, which the longest tells with no branch on the others. Then all hits are as one group: most
+// groups have a hit or none, so that their ends are costly to tell.
+pub fn none_dropped(groups: &[u32], threshold: u64) -> bool
+    ensures { λ r. ⌜ (r ≡ true → All (λ g. g < threshold) (now (groups .entry))) ⌝ }
+{
+    let longest = base::largest(groups);
+    (longest as u64) < threshold
+}
+
 // Puts the keys of the groups shorter than the threshold at the front, and returns how many they are.
 fn fill(
     groups: &[u32],
@@ -75,7 +87,17 @@ fn fill(
     n
 }
 
-// The same, sorted.
+// The keys of all hits, sorted.
+fn gather_all(contigs: &[u32], positions: &[u32], keys: &mut [u64])
+    requires { ⌜ Parallel (now contigs) (now positions) (now keys) ⌝ }
+    ensures { λ _. ⌜ now (keys .exit) ≡ sortOf (keysOf (now (contigs .entry)) (now (positions .entry))) ⌝ }
+{
+    let n = contigs.len();
+    put_group(contigs, positions, keys, 0, n, 0);
+    keys::sort(keys);
+}
+
+// The keys of the groups shorter than the threshold at the front, sorted, and how many they are.
 pub fn gather(
     groups: &[u32],
     contigs: &[u32],
@@ -86,6 +108,11 @@ pub fn gather(
     requires { ⌜ Grouped (now groups) (now contigs) (now positions) (now keys) ⌝ }
     ensures { λ r. ⌜ Fronted (sortOf (kept threshold (now (groups .entry)) (keysOf (now (contigs .entry)) (now (positions .entry))))) (now (keys .entry)) (now (keys .exit)) r ⌝ }
 {
+    if none_dropped(groups, threshold) {
+        let hits = contigs.len();
+        gather_all(contigs, positions, &mut keys[..hits]);
+        return hits;
+    }
     let n = fill(groups, contigs, positions, threshold, keys);
     keys::sort(&mut keys[..n]);
     n

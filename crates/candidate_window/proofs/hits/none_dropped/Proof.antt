@@ -5,8 +5,8 @@ use Prim.Native.Nat.{_≤_, _<_}
 use native.Mathlib.Omega.{arith}
 use denote.Ref.{now}
 use Rattle.base.proofs.Lists.{all-map}
-use Rattle.candidate_intervals.proofs.intervals.none_dropped.Statement.{statement}
-use Rattle.candidate_intervals.proofs.intervals.none_dropped.Tie as tie
+use Rattle.candidate_window.proofs.hits.none_dropped.Statement.{statement}
+use Rattle.candidate_window.proofs.hits.none_dropped.Tie as tie
 
 largest-requires : tie.Need-largest-requires
 largest-requires c κs = search needs
