@@ -1,7 +1,7 @@
 // The kept intervals as two lists of keys, those of their starts and those of their ends. Empty intervals are passed over.
 ghost use Rattle.candidate_intervals.specs.Work.{Grouped, GroupAt, PutKeys, Filled, Sorted, Gathered, Front};
 use super::paired::sort_paired;
-use candidate_window::hits::key_of;
+use buckets::halves::key_of;
 use candidate_window::hits::none_dropped;
 
 // How many intervals have their keys at the front of the two lists, and how many hits were kept.

@@ -7,14 +7,10 @@ ghost use lib.Seq.{paste};
 ghost use Rattle.base.specs.Lists.{All};
 ghost use Rattle.base.specs.Sort.{sortOf};
 ghost use Rattle.keys.specs.Lists.{Fronted};
-ghost use Rattle.rules.specs.Finder.{kept, keyOf, keyContig, keyAt, keysOf};
+ghost use Rattle.rules.specs.Finder.{kept, keyContig, keyAt, keysOf};
 ghost use Rattle.candidate_window.specs.Work.{Grouped, GroupAt, Parallel};
-
-pub fn key_of(contig: u32, at: u32) -> u64
-    ensures { λ r. ⌜ r ≡ keyOf contig at ⌝ }
-{
-    (contig as u64) * 4294967296 + at as u64
-}
+use buckets::halves;
+use buckets::halves::key_of;
 
 pub fn contig_of(key: u64) -> u32
     ensures { λ r. ⌜ r ≡ keyContig key ⌝ }
@@ -87,12 +83,16 @@ fn fill(
     n
 }
 
-// The keys of all hits, sorted.
+// The keys of all hits, sorted. Buckets pay from some hundred keys on.
 fn gather_all(contigs: &[u32], positions: &[u32], keys: &mut [u64])
     requires { ⌜ Parallel (now contigs) (now positions) (now keys) ⌝ }
     ensures { λ _. ⌜ now (keys .exit) ≡ sortOf (keysOf (now (contigs .entry)) (now (positions .entry))) ⌝ }
 {
     let n = contigs.len();
+    if 512 <= n {
+        halves::sort(contigs, positions, keys);
+        return;
+    }
     put_group(contigs, positions, keys, 0, n, 0);
     keys::sort(keys);
 }
