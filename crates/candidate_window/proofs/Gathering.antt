@@ -1,18 +1,19 @@
--- Keys of the kept hits at the front of a list: a group's keys are put after those that are there, one store a turn, and what the groups so far gave with
--- what the others will give makes the whole. A key is never put past the hits that were read, so there is room. Where no group is dropped all hits are as
--- one group. Assumes nothing.
+-- Keys of the kept hits at the front of a list: a group's keys are put after those that are there, one store a turn. Neighbouring kept groups are put as
+-- one, and what is put, the run that is not put yet and what the other groups will give make the whole. A key is never put past the hits that were read,
+-- so there is room. Where no group is dropped all hits are as one group. Assumes nothing.
 use mathlib.Core.Path.{_≡_, refl, sym, ap, _∙_}
 use mathlib.Core.List.{List, [], _++_, append-nil, append-assoc}
 use Prim.Native.Nat.{ℕ, _+_, _-_, _≤_, _<_}
 use native.Mathlib.Numerals.{add-one}
 use native.Mathlib.Omega.{arith}
 use lib.ListN.{length, getD, set, take, drop, length-append, length-drop, drop-of-length-le}
-use lib.Seq.{paste, paste-zero, paste-suc, length-paste, take-at, drop-at, drop-append-add, drop-drop, getD-drop, length-take-le, take-all}
+use lib.Seq.{paste, paste-zero, paste-suc, length-paste, take-at, take-add, drop-at, drop-append-add, drop-drop, getD-drop, length-take-le, take-all}
 use Rattle.base.specs.Buffers.{over}
 use Rattle.base.specs.Lists.{All}
 use Rattle.base.specs.Sort.{sortOf}
 use Rattle.base.proofs.Sort.{length-sort}
 use Rattle.keys.specs.Lists.{Fronted}
+use Rattle.rules.specs.Limits.{itemLimit}
 use Rattle.rules.specs.Lists.{sum}
 use Rattle.rules.specs.Finder.{kept, keyOf, keysOf}
 use Rattle.rules.proofs.FinderKept.{keys-length, keys-at, sum-next, keptFrom, kept-keep, kept-pass, kept-end, kept-all}
@@ -49,7 +50,7 @@ module _ {cs ps entry : List ℕ} {from count n : ℕ} (asked : GroupAt cs ps en
     pub putting-end : count ≤ k → now ≡ paste entry n (drop from (keysOf cs ps)) count
     putting-end l = let all : k ≡ count = omega arith in p .is ∙ ap (paste entry n (drop from (keysOf cs ps))) all
 
--- ---- all groups, before the g-th, whose hits begin at `at`
+-- ---- all groups, before the g-th: the `run` hits from `from` on are kept and not put yet
 
 -- a part put after a front
 pasted : (front entry now part : List ℕ) (n m : ℕ) → length front ≡ n → now ≡ over front entry → m ≤ length part → paste now n part m ≡ over (front ++ take m part) entry
@@ -61,18 +62,18 @@ pasted front entry now part n m e is fits =
     ap (λ (x : List ℕ). x ++ take m part ++ drop (n + m) now) (ap (take n) is ∙ take-at front (drop (length front) entry) n e) ∙
     ap (λ (x : List ℕ). front ++ take m part ++ x) rest ∙ ap (λ (k : ℕ). front ++ take m part ++ drop k entry) (sym long)
 
-pub record Filling (threshold : ℕ) (groups hits entry now : List ℕ) (g at n : ℕ) : Type 0 where
+pub record Filling (threshold : ℕ) (groups hits entry now : List ℕ) (g from run n : ℕ) : Type 0 where
   pub front : List ℕ
   pub many : length front ≡ n
-  pub whole : front ++ keptFrom threshold groups hits g at ≡ kept threshold groups hits
+  pub whole : front ++ take run (drop from hits) ++ keptFrom threshold groups hits g (from + run) ≡ kept threshold groups hits
   pub is : now ≡ over front entry
-  pub left : at + sum (drop g groups) ≡ length hits
-  pub few : n ≤ at
+  pub left : from + run + sum (drop g groups) ≡ length hits
+  pub few : n ≤ from
   pub room : length hits ≤ length entry
   pub same : length now ≡ length entry
   pub upto : g ≤ length groups
 
-pub filling-start : (threshold : ℕ) {groups cs ps entry : List ℕ} → Grouped groups cs ps entry → Filling threshold groups (keysOf cs ps) entry entry 0 0 0
+pub filling-start : (threshold : ℕ) {groups cs ps entry : List ℕ} → Grouped groups cs ps entry → Filling threshold groups (keysOf cs ps) entry entry 0 0 0 0
 filling-start threshold {groups} {cs} {ps} {entry} a = record {
   front = [];
   many = refl;
@@ -85,61 +86,81 @@ filling-start threshold {groups} {cs} {ps} {entry} a = record {
   upto = omega arith;
 }
 
-module _ {threshold : ℕ} {groups hits entry now : List ℕ} {g at n : ℕ} (f : Filling threshold groups hits entry now g at n) where
+module _ {threshold : ℕ} {groups hits entry now : List ℕ} {g from run n : ℕ} (f : Filling threshold groups hits entry now g from run n) where
   abbrev size : ℕ
   size = getD groups g 0
 
+  abbrev part : List ℕ
+  part = take run (drop from hits)
+
+  -- the run is put after the front
+  fits : run ≤ length (drop from hits)
+  fits = omega (arith, f .left, length-drop from hits)
+
+  put-many : length (f .front ++ part) ≡ n + run
+  put-many = length-append (f .front) part ∙ ap (λ (k : ℕ). k + length part) (f .many) ∙ ap (λ (k : ℕ). n + k) (length-take-le run (drop from hits) fits)
+
+  put-is : (now′ : List ℕ) → now′ ≡ paste now n (drop from hits) run → now′ ≡ over (f .front ++ part) entry
+  put-is now′ put = put ∙ pasted (f .front) entry now (drop from hits) n run (f .many) (f .is) fits
+
   module _ (l : g < length groups) where
-    pub filling-within : at + size ≤ length hits
-    filling-within = omega (arith, sum-next groups g l, f .left)
+    pub filling-keep : size < threshold → Filling threshold groups hits entry now (g + 1) from (run + size) n
+    filling-keep short =
+        let at : from + (run + size) ≡ from + run + size = omega arith in
+        let next = take size (drop (from + run) hits) in
+        let longer : take (run + size) (drop from hits) ≡ part ++ next = take-add run size (drop from hits) ∙ ap (λ (x : List ℕ). part ++ take size x) (drop-drop run from hits) in
+        record {
+          front = f .front;
+          many = f .many;
+          whole =
+              ap (λ (x : List ℕ). f .front ++ x ++ keptFrom threshold groups hits (g + 1) (from + (run + size))) longer ∙
+              ap (λ (k : ℕ). f .front ++ (part ++ next) ++ keptFrom threshold groups hits (g + 1) k) at ∙
+              ap (λ (x : List ℕ). x ++ keptFrom threshold groups hits (g + 1) (from + run + size)) (sym (append-assoc (f .front) part next)) ∙
+              append-assoc (f .front ++ part) next (keptFrom threshold groups hits (g + 1) (from + run + size)) ∙
+              ap (λ (x : List ℕ). f .front ++ part ++ x) (sym (kept-keep threshold groups hits g (from + run) l short)) ∙ f .whole;
+          is = f .is;
+          left = omega (arith, sum-next groups g l, f .left);
+          few = f .few;
+          room = f .room;
+          same = f .same;
+          upto = omega arith;
+        }
 
-    next-left : at + size + sum (drop (g + 1) groups) ≡ length hits
-    next-left = omega (arith, sum-next groups g l, f .left)
-
-    pub filling-keep : (now′ : List ℕ) → size < threshold → now′ ≡ paste now n (drop at hits) size → length now′ ≡ length now → Filling threshold groups hits entry now′ (g + 1) (at + size) (n + size)
-    filling-keep now′ short put same =
-        let part = take size (drop at hits) in
-        let fits : size ≤ length (drop at hits) = omega (arith, filling-within, length-drop at hits) in
+    pub filling-pass : (now′ : List ℕ) → threshold ≤ size → now′ ≡ paste now n (drop from hits) run → length now′ ≡ length now
+        → Filling threshold groups hits entry now′ (g + 1) (from + (run + size)) 0 (n + run)
+    filling-pass now′ long put same =
+        let at : from + (run + size) + 0 ≡ from + run + size = omega arith in
         record {
           front = f .front ++ part;
-          many = length-append (f .front) part ∙ ap (λ (k : ℕ). k + length part) (f .many) ∙ ap (λ (k : ℕ). n + k) (length-take-le size (drop at hits) fits);
+          many = put-many;
           whole =
-              append-assoc (f .front) part (keptFrom threshold groups hits (g + 1) (at + size)) ∙
-              ap (λ (x : List ℕ). f .front ++ x) (sym (kept-keep threshold groups hits g at l short)) ∙ f .whole;
-          is = put ∙ pasted (f .front) entry now (drop at hits) n size (f .many) (f .is) fits;
-          left = next-left;
+              ap (λ (x : List ℕ). x ++ keptFrom threshold groups hits (g + 1) (from + (run + size) + 0)) (append-nil (f .front ++ part)) ∙
+              ap (λ (k : ℕ). f .front ++ part ++ keptFrom threshold groups hits (g + 1) k) at ∙
+              ap (λ (x : List ℕ). f .front ++ part ++ x) (sym (kept-pass threshold groups hits g (from + run) l long)) ∙ f .whole;
+          is = put-is now′ put;
+          left = omega (arith, sum-next groups g l, f .left);
           few = omega (arith, f .few);
           room = f .room;
           same = same ∙ f .same;
           upto = omega arith;
         }
 
-    pub filling-pass : threshold ≤ size → Filling threshold groups hits entry now (g + 1) (at + size) n
-    filling-pass long = record {
-      front = f .front;
-      many = f .many;
-      whole = ap (λ (x : List ℕ). f .front ++ x) (sym (kept-pass threshold groups hits g at l long)) ∙ f .whole;
-      is = f .is;
-      left = next-left;
-      few = omega (arith, f .few);
-      room = f .room;
-      same = f .same;
-      upto = omega arith;
-    }
+  pub filling-end : (now′ : List ℕ) → length groups ≤ g → now′ ≡ paste now n (drop from hits) run → Fronted (kept threshold groups hits) entry now′ (n + run)
+  filling-end now′ l put =
+      let all : f .front ++ part ≡ kept threshold groups hits =
+      sym (append-nil (f .front ++ part)) ∙ ap (λ (x : List ℕ). f .front ++ part ++ x) (sym (kept-end threshold groups hits g (from + run) l)) ∙ f .whole in
+      record { many = sym put-many ∙ ap length all; is = put-is now′ put ∙ ap (λ (x : List ℕ). over x entry) all }
 
-  pub filling-end : length groups ≤ g → Fronted (kept threshold groups hits) entry now n
-  filling-end l =
-      let all : f .front ≡ kept threshold groups hits =
-      sym (append-nil (f .front)) ∙ ap (λ (x : List ℕ). f .front ++ x) (sym (kept-end threshold groups hits g at l)) ∙ f .whole in
-      record { many = sym (f .many) ∙ ap length all; is = f .is ∙ ap (λ (x : List ℕ). over x entry) all }
+module _ {threshold : ℕ} {groups cs ps entry now : List ℕ} {g from run n : ℕ} (a : Grouped groups cs ps entry) (f : Filling threshold groups (keysOf cs ps) entry now g from run n) where
+  -- the run's hits are there, and so is room for their keys
+  pub filling-run : GroupAt cs ps now from run n
+  filling-run =
+      let k = keys-length cs ps (a .parallel) in
+      record { parallel = a .parallel; within = omega (arith, f .left); room = omega (arith, f .left, f .few, f .same, a .room) }
 
--- the next group's hits are there, and so is room for their keys
-pub filling-group : {threshold : ℕ} {groups cs ps entry now : List ℕ} {g at n : ℕ} → Grouped groups cs ps entry → Filling threshold groups (keysOf cs ps) entry now g at n
-    → g < length groups → GroupAt cs ps now at (getD groups g 0) n
-filling-group {threshold} {groups} {cs} {ps} {entry} {now} {g} {at} {n} a f l =
-    let h = filling-within f l in
-    let k = keys-length cs ps (a .parallel) in
-    record { parallel = a .parallel; within = omega arith; room = omega (arith, f .few, f .same, a .room) }
+  -- the next group ends within the hits, which are few
+  pub filling-within : g < length groups → from + run + getD groups g 0 ≤ itemLimit
+  filling-within l = omega (arith, sum-next groups g l, f .left, keys-length cs ps (a .parallel), a .few)
 
 -- ---- all hits as one group, where none is dropped
 

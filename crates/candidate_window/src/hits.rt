@@ -54,7 +54,8 @@ pub fn none_dropped(groups: &[u32], threshold: u64) -> bool
     (longest as u64) < threshold
 }
 
-// Puts the keys of the groups shorter than the threshold at the front, and returns how many they are.
+// Puts the keys of the groups shorter than the threshold at the front, and returns how many they are. Neighbouring kept groups are put as one, the
+// `run` hits that begin at `from`: dropped groups are rare, so that whether one ends the run is guessed right.
 fn fill(
     groups: &[u32],
     contigs: &[u32],
@@ -66,21 +67,24 @@ fn fill(
     ensures { λ r. ⌜ Fronted (kept threshold (now (groups .entry)) (keysOf (now (contigs .entry)) (now (positions .entry)))) (now (keys .entry)) (now (keys .exit)) r ⌝ }
 {
     let mut n = 0;
-    let mut at = 0;
+    let mut from = 0;
+    let mut run = 0;
     let mut g = 0;
     while g < groups.len() {
         let group = groups[g];
         let count = group as usize;
         g += 1;
         if (group as u64) < threshold {
-            put_group(contigs, positions, keys, at, count, n);
-            n += count;
-            at += count;
+            run += count;
             continue;
         }
-        at += count;
+        put_group(contigs, positions, keys, from, run, n);
+        n += run;
+        from += run + count;
+        run = 0;
     }
-    n
+    put_group(contigs, positions, keys, from, run, n);
+    n + run
 }
 
 // The keys of all hits, sorted. Buckets pay from some hundred keys on.
