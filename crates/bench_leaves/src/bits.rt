@@ -2,7 +2,7 @@
 // Nothing can be required of C, so each function looks at its arguments and answers how many operations it has run.
 ghost use mathlib.Core.Path.{_≡_};
 ghost use mathlib.Core.Bool.{false};
-ghost use Prim.Native.Nat.{_≤_, min};
+ghost use Prim.Native.Nat.{ℕ, _+_, _*_, _≤_, _<_, min};
 ghost use lib.ListN.{length, getD};
 ghost use Rattle.summary_bits.specs.Summary.{Fits, Summary};
 use base::Coord;
@@ -58,12 +58,67 @@ fn told(found: Found) -> u32 {
     }
 }
 
-#[no_mangle]
-pub extern "C" fn bits_set(words: &mut [u64], summary: &mut [u64], at: &[u32]) -> usize {
-    if misfit(words, summary) {
-        return 0;
+// The eight indices from k on.
+fn eight(at: &[u32], k: usize) -> [u32; 8]
+    requires { ⌜ k + 8 ≤ length (now at) ⌝ }
+{
+    let mut indices = [0u32; 8];
+    let mut j = 0;
+    while j < 8 {
+        indices[j] = at[k + j];
+        j += 1;
     }
+    indices
+}
+
+// Whether one of the indices is not below the limit.
+fn beyond(indices: &[u32; 8], limit: u32) -> bool
+    ensures { λ r. ⌜ (r ≡ false → (j : ℕ) → j < 8 → getD (now (indices .entry)) j 0 < limit) ⌝ }
+{
+    let mut j = 0;
+    while j < 8 {
+        if limit <= indices[j] {
+            return true;
+        }
+        j += 1;
+    }
+    false
+}
+
+fn set_eight(words: &mut [u64], summary: &mut [u64], indices: &[u32; 8])
+    requires { ⌜ Fits (now words) (now summary) × ((j : ℕ) → j < 8 → getD (now indices) j 0 < length (now words) * 64) ⌝ }
+    ensures { λ _. ⌜ (length (now (words .exit)) ≡ length (now (words .entry))) × (length (now (summary .exit)) ≡ length (now (summary .entry))) ⌝ }
+{
+    let mut j = 0;
+    while j < 8 {
+        summary_bits::set(words, summary, Coord(indices[j]));
+        j += 1;
+    }
+}
+
+// Runs the list in eights, as far as none of eight lies past the words. The eight are read before any is run: the compiler can't tell that a store
+// to the words leaves the list alone, and after a branch that was guessed wrong the next index would have to be read first.
+fn set_blocks(words: &mut [u64], summary: &mut [u64], at: &[u32]) -> usize
+    requires { ⌜ Fits (now words) (now summary) × (length (now summary) ≤ 1024) ⌝ }
+    ensures { λ _. ⌜ (length (now (words .exit)) ≡ length (now (words .entry))) × (length (now (summary .exit)) ≡ length (now (summary .entry))) ⌝ }
+{
+    let limit = (words.len() * 64) as u32;
     let mut k = 0;
+    while 8 <= at.len() - k {
+        let indices = eight(at, k);
+        if beyond(&indices, limit) {
+            return k;
+        }
+        set_eight(words, summary, &indices);
+        k += 8;
+    }
+    k
+}
+
+fn set_rest(words: &mut [u64], summary: &mut [u64], at: &[u32], from: usize) -> usize
+    requires { ⌜ Fits (now words) (now summary) ⌝ }
+{
+    let mut k = from;
     while k < at.len() {
         if words.len() * 64 <= at[k] as usize {
             return k;
@@ -75,11 +130,46 @@ pub extern "C" fn bits_set(words: &mut [u64], summary: &mut [u64], at: &[u32]) -
 }
 
 #[no_mangle]
-pub extern "C" fn bits_clear(words: &mut [u64], summary: &mut [u64], at: &[u32]) -> usize {
+pub extern "C" fn bits_set(words: &mut [u64], summary: &mut [u64], at: &[u32]) -> usize {
     if misfit(words, summary) {
         return 0;
     }
+    let k = set_blocks(words, summary, at);
+    set_rest(words, summary, at, k)
+}
+
+fn clear_eight(words: &mut [u64], summary: &mut [u64], indices: &[u32; 8])
+    requires { ⌜ Fits (now words) (now summary) × ((j : ℕ) → j < 8 → getD (now indices) j 0 < length (now words) * 64) ⌝ }
+    ensures { λ _. ⌜ (length (now (words .exit)) ≡ length (now (words .entry))) × (length (now (summary .exit)) ≡ length (now (summary .entry))) ⌝ }
+{
+    let mut j = 0;
+    while j < 8 {
+        summary_bits::clear(words, summary, Coord(indices[j]));
+        j += 1;
+    }
+}
+
+fn clear_blocks(words: &mut [u64], summary: &mut [u64], at: &[u32]) -> usize
+    requires { ⌜ Fits (now words) (now summary) × (length (now summary) ≤ 1024) ⌝ }
+    ensures { λ _. ⌜ (length (now (words .exit)) ≡ length (now (words .entry))) × (length (now (summary .exit)) ≡ length (now (summary .entry))) ⌝ }
+{
+    let limit = (words.len() * 64) as u32;
     let mut k = 0;
+    while 8 <= at.len() - k {
+        let indices = eight(at, k);
+        if beyond(&indices, limit) {
+            return k;
+        }
+        clear_eight(words, summary, &indices);
+        k += 8;
+    }
+    k
+}
+
+fn clear_rest(words: &mut [u64], summary: &mut [u64], at: &[u32], from: usize) -> usize
+    requires { ⌜ Fits (now words) (now summary) ⌝ }
+{
+    let mut k = from;
     while k < at.len() {
         if words.len() * 64 <= at[k] as usize {
             return k;
@@ -88,6 +178,15 @@ pub extern "C" fn bits_clear(words: &mut [u64], summary: &mut [u64], at: &[u32])
         k += 1;
     }
     k
+}
+
+#[no_mangle]
+pub extern "C" fn bits_clear(words: &mut [u64], summary: &mut [u64], at: &[u32]) -> usize {
+    if misfit(words, summary) {
+        return 0;
+    }
+    let k = clear_blocks(words, summary, at);
+    clear_rest(words, summary, at, k)
 }
 
 #[no_mangle]

@@ -24,10 +24,10 @@ pub fn set(words: &mut [u64], summary: &mut [u64], coord: Coord)
     requires { ⌜ Fits (now words) (now summary) × (coord .0 < length (now words) * 64) ⌝ }
     ensures { λ _. ⌜ (now (words .exit) ≡ withOn (now (words .entry)) (coord .0)) × (now (summary .exit) ≡ raised (now (words .entry)) (now (summary .entry)) (coord .0)) ⌝ }
 {
-    let index = coord.0 as usize;
-    let w = index / 64;
+    // Divided before it is widened: else the compiler makes a shift and a mask of the address, an instruction more before the load.
+    let w = (coord.0 / 64) as usize;
     let old = words[w];
-    words[w] = old | (1u64 << (index % 64));
+    words[w] = old | (1u64 << (coord.0 % 64));
     if old == 0 {
         let s = w / 64;
         summary[s] = summary[s] | (1u64 << (w % 64));
@@ -38,9 +38,8 @@ pub fn clear(words: &mut [u64], summary: &mut [u64], coord: Coord)
     requires { ⌜ Fits (now words) (now summary) × (coord .0 < length (now words) * 64) ⌝ }
     ensures { λ _. ⌜ (now (words .exit) ≡ withOff (now (words .entry)) (coord .0)) × (now (summary .exit) ≡ lowered (now (words .entry)) (now (summary .entry)) (coord .0)) ⌝ }
 {
-    let index = coord.0 as usize;
-    let w = index / 64;
-    let left = words[w] & !(1u64 << (index % 64));
+    let w = (coord.0 / 64) as usize;
+    let left = words[w] & !(1u64 << (coord.0 % 64));
     words[w] = left;
     if left == 0 {
         let s = w / 64;
@@ -53,9 +52,8 @@ pub fn clear_if(words: &mut [u64], summary: &mut [u64], coord: Coord, one: u64)
     requires { ⌜ Fits (now words) (now summary) × Summary (now words) (now summary) × (coord .0 < length (now words) * 64) × (one ≤ 1) ⌝ }
     ensures { λ _. ⌜ (now (words .exit) ≡ pick (eqb one 1) (withOff (now (words .entry)) (coord .0)) (now (words .entry))) × (now (summary .exit) ≡ pick (eqb one 1) (lowered (now (words .entry)) (now (summary .entry)) (coord .0)) (now (summary .entry))) ⌝ }
 {
-    let index = coord.0 as usize;
-    let w = index / 64;
-    let left = words[w] & !(one << (index % 64));
+    let w = (coord.0 / 64) as usize;
+    let left = words[w] & !(one << (coord.0 % 64));
     words[w] = left;
     if left == 0 {
         let block = w / 64;

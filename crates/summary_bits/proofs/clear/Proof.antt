@@ -11,14 +11,17 @@ use borrow.Author.Needs.{needs}
 use Rattle.summary_bits.proofs.clear.Statement.{statement}
 use Rattle.summary_bits.proofs.clear.Tie as tie
 
-cast-index : tie.Need-cast-index
-cast-index c = search needs
+cast-w : tie.Need-cast-w
+cast-w c = search needs
 
 mul-left : tie.Need-mul-left
 mul-left c = search needs
 
 slice-read-left : tie.Need-slice-read-left
 slice-read-left c = search needs
+
+cast-left : tie.Need-cast-left
+cast-left c = search needs
 
 shl-left : tie.Need-shl-left
 shl-left c = search needs
@@ -53,7 +56,7 @@ same-length-2 c = search needs
 returns : tie.Need-returns
 unfolding withOff offBit lowered
 returns c =
-    let a = c .before .before .before .before .args in
+    let a = c .before .before .before .before .before .args in
     let one = one-shl (a .coord .0 % 64) (omega arith) in
     (rw one, eq-stop _ _ _ _ _ (rw one at (c .before .if1 .taken)) (rw (one-shl (a .coord .0 / 64 % 64) (omega arith))))
 
@@ -63,7 +66,7 @@ same-length-3 c = search needs
 returns-2 : tie.Need-returns-2
 unfolding withOff offBit lowered
 returns-2 c =
-    let a = c .before .before .before .args in
+    let a = c .before .before .before .before .args in
     let one = one-shl (a .coord .0 % 64) (omega arith) in
     (rw one, eq-skip _ _ _ _ _ (rw one at (c .if1 .left)) refl)
 
@@ -71,9 +74,10 @@ pub clear-spec : {M : Type 1} → statement M
 clear-spec =
     tie.close
     (tie.spec
-    cast-index
+    cast-w
     mul-left
     slice-read-left
+    cast-left
     shl-left
     mul-words
     slice-write-words

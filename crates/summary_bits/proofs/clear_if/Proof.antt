@@ -11,14 +11,17 @@ use Rattle.summary_bits.proofs.Choice.{words-if, summary-off, summary-k
 use Rattle.summary_bits.proofs.clear_if.Statement.{statement}
 use Rattle.summary_bits.proofs.clear_if.Tie as tie
 
-cast-index : tie.Need-cast-index
-cast-index c = search needs
+cast-w : tie.Need-cast-w
+cast-w c = search needs
 
 mul-left : tie.Need-mul-left
 mul-left c = search needs
 
 slice-read-left : tie.Need-slice-read-left
 slice-read-left c = search needs
+
+cast-left : tie.Need-cast-left
+cast-left c = search needs
 
 shl-left : tie.Need-shl-left
 shl-left c = search needs
@@ -53,7 +56,7 @@ same-length-2 c = search needs
 returns : tie.Need-returns
 unfolding withOff offBit
 returns c =
-    let k = c .before .before in
+    let k = c .before .before .before in
     let t = k .before .before in
     let a = t .args in
     let i = a .coord .0 in
@@ -67,7 +70,7 @@ same-length-3 c = search needs
 
 returns-2 : tie.Need-returns-2
 returns-2 c =
-    let k = c .before in
+    let k = c .before .before in
     let t = k .before .before in
     let a = t .args in
     let h : getD (now (a .words)) (a .coord .0 / 64) 0 < 2 ^ 64 = omega (arith, k .slice-known .given (a .coord .0 / 64)) in
@@ -77,9 +80,10 @@ pub clear-if-spec : {M : Type 1} → statement M
 clear-if-spec =
     tie.close
     (tie.spec
-    cast-index
+    cast-w
     mul-left
     slice-read-left
+    cast-left
     shl-left
     mul-words
     slice-write-words

@@ -10,14 +10,17 @@ use borrow.Author.Needs.{needs}
 use Rattle.summary_bits.proofs.set.Statement.{statement}
 use Rattle.summary_bits.proofs.set.Tie as tie
 
-cast-index : tie.Need-cast-index
-cast-index c = search needs
+cast-w : tie.Need-cast-w
+cast-w c = search needs
 
 mul-old : tie.Need-mul-old
 mul-old c = search needs
 
 slice-read-old : tie.Need-slice-read-old
 slice-read-old c = search needs
+
+cast-words : tie.Need-cast-words
+cast-words c = search needs
 
 shl-words : tie.Need-shl-words
 shl-words c = search needs
@@ -52,7 +55,7 @@ same-length-2 c = search needs
 returns : tie.Need-returns
 unfolding withOn onBit raised
 returns c =
-    let a = c .before .before .before .before .args in (
+    let a = c .before .before .before .before .before .args in (
       rw (one-shl (a .coord .0 % 64) (omega arith)),
       eq-stop _ _ _ _ _ (c .before .if1 .taken) (rw (one-shl (a .coord .0 / 64 % 64) (omega arith))),
     )
@@ -63,16 +66,17 @@ same-length-3 c = search needs
 returns-2 : tie.Need-returns-2
 unfolding withOn onBit raised
 returns-2 c =
-    let a = c .before .before .before .args in
+    let a = c .before .before .before .before .args in
     (rw (one-shl (a .coord .0 % 64) (omega arith)), eq-skip _ _ _ _ _ (c .if1 .left) refl)
 
 pub set-spec : {M : Type 1} → statement M
 set-spec =
     tie.close
     (tie.spec
-    cast-index
+    cast-w
     mul-old
     slice-read-old
+    cast-words
     shl-words
     mul-words
     slice-write-words
