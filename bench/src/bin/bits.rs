@@ -1,5 +1,7 @@
 //! set, clear and the two searches against the original's `SummaryBitSet`, a list of operations to a call on both sides.
 //!
+//! `set` and `clear` go through their list in eights on both sides, which the compiler unrolls.
+//!
 //! Each row has a pool of different sets and lists. A round runs the whole pool on one side and then on the other, the sides taking turns at
 //! going first; a row shows the median of the rounds' ratios. Before any time is taken the two sides' answers and states are compared.
 
@@ -37,12 +39,26 @@ const NOTHING: u32 = u32::MAX;
 fn original(op: Operation, w: &mut Work) {
     match op {
         Operation::Set => {
-            for &i in &w.at {
+            let eights = w.at.chunks_exact(8);
+            let rest = eights.remainder();
+            for eight in eights {
+                for &i in eight {
+                    w.set.set(i as usize);
+                }
+            }
+            for &i in rest {
                 w.set.set(i as usize);
             }
         }
         Operation::Clear => {
-            for &i in &w.at {
+            let eights = w.at.chunks_exact(8);
+            let rest = eights.remainder();
+            for eight in eights {
+                for &i in eight {
+                    w.set.clear(i as usize);
+                }
+            }
+            for &i in rest {
                 w.set.clear(i as usize);
             }
         }
