@@ -1,6 +1,6 @@
 //! set, clear and the two searches against the original's `SummaryBitSet`, a list of operations to a call on both sides.
 //!
-//! `set` and `clear` go through their list in eights on both sides, which the compiler unrolls.
+//! `set` and `clear` go through their list twice: one operation after the other on both sides, and in eights on both sides, which the compiler unrolls.
 //!
 //! Each row has a pool of different sets and lists. A round runs the whole pool on one side and then on the other, the sides taking turns at
 //! going first; a row shows the median of the rounds' ratios. Before any time is taken the two sides' answers and states are compared.
@@ -14,6 +14,8 @@ use std::hint::black_box;
 extern "C" {
     fn bits_set(words: *mut u64, nw: usize, summary: *mut u64, ns: usize, at: *const u32, n: usize) -> usize;
     fn bits_clear(words: *mut u64, nw: usize, summary: *mut u64, ns: usize, at: *const u32, n: usize) -> usize;
+    fn bits_set_each(words: *mut u64, nw: usize, summary: *mut u64, ns: usize, at: *const u32, n: usize) -> usize;
+    fn bits_clear_each(words: *mut u64, nw: usize, summary: *mut u64, ns: usize, at: *const u32, n: usize) -> usize;
     fn bits_prev(words: *const u64, nw: usize, summary: *const u64, ns: usize, at: *const u32, n: usize, out: *mut u32, no: usize) -> usize;
     fn bits_next(words: *const u64, nw: usize, summary: *const u64, ns: usize, at: *const u32, n: usize, out: *mut u32, no: usize) -> usize;
 }
@@ -22,6 +24,8 @@ extern "C" {
 enum Operation {
     Set,
     Clear,
+    SetEights,
+    ClearEights,
     Prev,
     Next,
 }
@@ -39,6 +43,16 @@ const NOTHING: u32 = u32::MAX;
 fn original(op: Operation, w: &mut Work) {
     match op {
         Operation::Set => {
+            for &i in &w.at {
+                w.set.set(i as usize);
+            }
+        }
+        Operation::Clear => {
+            for &i in &w.at {
+                w.set.clear(i as usize);
+            }
+        }
+        Operation::SetEights => {
             let eights = w.at.chunks_exact(8);
             let rest = eights.remainder();
             for eight in eights {
@@ -50,7 +64,7 @@ fn original(op: Operation, w: &mut Work) {
                 w.set.set(i as usize);
             }
         }
-        Operation::Clear => {
+        Operation::ClearEights => {
             let eights = w.at.chunks_exact(8);
             let rest = eights.remainder();
             for eight in eights {
@@ -84,8 +98,10 @@ fn proved(op: Operation, w: &mut Work) {
     // SAFETY: each pointer goes with its slice's own length, and the four slices do not overlap.
     let run = unsafe {
         match op {
-            Operation::Set => bits_set(words, nw, summary, ns, at, n),
-            Operation::Clear => bits_clear(words, nw, summary, ns, at, n),
+            Operation::Set => bits_set_each(words, nw, summary, ns, at, n),
+            Operation::Clear => bits_clear_each(words, nw, summary, ns, at, n),
+            Operation::SetEights => bits_set(words, nw, summary, ns, at, n),
+            Operation::ClearEights => bits_clear(words, nw, summary, ns, at, n),
             Operation::Prev => bits_prev(words, nw, summary, ns, at, n, out, no),
             Operation::Next => bits_next(words, nw, summary, ns, at, n, out, no),
         }
@@ -172,10 +188,17 @@ fn main() {
     let rounds: usize = std::env::args().nth(1).map_or(101, |x| x.parse().expect("the number of rounds"));
     println!("| operation | coordinates | set, one in | original, ns | proved, ns | ratio |");
     println!("|---|---|---|---|---|---|");
-    for (name, op) in [("set", Operation::Set), ("clear", Operation::Clear), ("prev_set_before", Operation::Prev), ("next_set_after", Operation::Next)] {
+    for (name, op) in [
+        ("set", Operation::Set),
+        ("clear", Operation::Clear),
+        ("set, in eights", Operation::SetEights),
+        ("clear, in eights", Operation::ClearEights),
+        ("prev_set_before", Operation::Prev),
+        ("next_set_after", Operation::Next),
+    ] {
         for len in [2_288usize, 65_536] {
             for sparse in [2u64, 10, 200, 5_000] {
-                let (sets, n) = if op == Operation::Set || op == Operation::Clear { (64, 2_048) } else { (4, 32_768) };
+                let (sets, n) = if op == Operation::Prev || op == Operation::Next { (4, 32_768) } else { (64, 2_048) };
                 let pool: Vec<Work> = (0..sets).map(|q| work(len, sparse, n, 1 + q as u64 * 7_919)).collect();
                 agree(op, &pool);
                 let mut works: Vec<Work> = pool.iter().map(copy).collect();

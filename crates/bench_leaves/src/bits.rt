@@ -129,6 +129,16 @@ fn set_rest(words: &mut [u64], summary: &mut [u64], at: &[u32], from: usize) -> 
     k
 }
 
+// One operation after the other.
+#[no_mangle]
+pub extern "C" fn bits_set_each(words: &mut [u64], summary: &mut [u64], at: &[u32]) -> usize {
+    if misfit(words, summary) {
+        return 0;
+    }
+    set_rest(words, summary, at, 0)
+}
+
+// In eights.
 #[no_mangle]
 pub extern "C" fn bits_set(words: &mut [u64], summary: &mut [u64], at: &[u32]) -> usize {
     if misfit(words, summary) {
@@ -180,6 +190,16 @@ fn clear_rest(words: &mut [u64], summary: &mut [u64], at: &[u32], from: usize) -
     k
 }
 
+// One operation after the other.
+#[no_mangle]
+pub extern "C" fn bits_clear_each(words: &mut [u64], summary: &mut [u64], at: &[u32]) -> usize {
+    if misfit(words, summary) {
+        return 0;
+    }
+    clear_rest(words, summary, at, 0)
+}
+
+// In eights.
 #[no_mangle]
 pub extern "C" fn bits_clear(words: &mut [u64], summary: &mut [u64], at: &[u32]) -> usize {
     if misfit(words, summary) {
