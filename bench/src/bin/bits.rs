@@ -1,6 +1,7 @@
 //! set, clear and the two searches against the original's `SummaryBitSet`, a list of operations to a call on both sides.
 //!
-//! `set` and `clear` go through their list twice: one operation after the other on both sides, and in eights on both sides, which the compiler unrolls.
+//! The original goes through its list one operation after the other. The proved list calls of `set` and `clear` read, check and run eight at a time;
+//! so these two are shown twice more with both sides alike: one by one, and in eights, which the compiler unrolls.
 //!
 //! Each row has a pool of different sets and lists. A round runs the whole pool on one side and then on the other, the sides taking turns at
 //! going first; a row shows the median of the rounds' ratios. Before any time is taken the two sides' answers and states are compared.
@@ -24,6 +25,8 @@ extern "C" {
 enum Operation {
     Set,
     Clear,
+    SetEach,
+    ClearEach,
     SetEights,
     ClearEights,
     Prev,
@@ -42,12 +45,12 @@ const NOTHING: u32 = u32::MAX;
 #[inline(never)]
 fn original(op: Operation, w: &mut Work) {
     match op {
-        Operation::Set => {
+        Operation::Set | Operation::SetEach => {
             for &i in &w.at {
                 w.set.set(i as usize);
             }
         }
-        Operation::Clear => {
+        Operation::Clear | Operation::ClearEach => {
             for &i in &w.at {
                 w.set.clear(i as usize);
             }
@@ -98,10 +101,10 @@ fn proved(op: Operation, w: &mut Work) {
     // SAFETY: each pointer goes with its slice's own length, and the four slices do not overlap.
     let run = unsafe {
         match op {
-            Operation::Set => bits_set_each(words, nw, summary, ns, at, n),
-            Operation::Clear => bits_clear_each(words, nw, summary, ns, at, n),
-            Operation::SetEights => bits_set(words, nw, summary, ns, at, n),
-            Operation::ClearEights => bits_clear(words, nw, summary, ns, at, n),
+            Operation::Set | Operation::SetEights => bits_set(words, nw, summary, ns, at, n),
+            Operation::Clear | Operation::ClearEights => bits_clear(words, nw, summary, ns, at, n),
+            Operation::SetEach => bits_set_each(words, nw, summary, ns, at, n),
+            Operation::ClearEach => bits_clear_each(words, nw, summary, ns, at, n),
             Operation::Prev => bits_prev(words, nw, summary, ns, at, n, out, no),
             Operation::Next => bits_next(words, nw, summary, ns, at, n, out, no),
         }
@@ -191,6 +194,8 @@ fn main() {
     for (name, op) in [
         ("set", Operation::Set),
         ("clear", Operation::Clear),
+        ("set, one by one", Operation::SetEach),
+        ("clear, one by one", Operation::ClearEach),
         ("set, in eights", Operation::SetEights),
         ("clear, in eights", Operation::ClearEights),
         ("prev_set_before", Operation::Prev),

@@ -34,6 +34,8 @@ pub fn set(words: &mut [u64], summary: &mut [u64], coord: Coord)
     }
 }
 
+// The summary is written only where its bit is on: where most words are empty already, clears that follow each other would else wait for
+// one summary word.
 pub fn clear(words: &mut [u64], summary: &mut [u64], coord: Coord)
     requires { ⌜ Fits (now words) (now summary) × (coord .0 < length (now words) * 64) ⌝ }
     ensures { λ _. ⌜ (now (words .exit) ≡ withOff (now (words .entry)) (coord .0)) × (now (summary .exit) ≡ lowered (now (words .entry)) (now (summary .entry)) (coord .0)) ⌝ }
@@ -43,7 +45,11 @@ pub fn clear(words: &mut [u64], summary: &mut [u64], coord: Coord)
     words[w] = left;
     if left == 0 {
         let s = w / 64;
-        summary[s] = summary[s] & !(1u64 << (w % 64));
+        let held = summary[s];
+        let bit = 1u64 << (w % 64);
+        if held & bit != 0 {
+            summary[s] = held & !bit;
+        }
     }
 }
 

@@ -1,13 +1,15 @@
 -- `clear` leaves the words with the bit off and lowers the summary where the word becomes 0: the two stores are `withOff` once `1 << b` is read
--- as 2 ^ b.
-use mathlib.Core.Path.{refl}
+-- as 2 ^ b, and where the summary bit is off already, `withOff` changes nothing.
+use mathlib.Core.Path.{refl, sym}
 use Prim.Native.Nat.{_/_, _%_}
 use native.Mathlib.Omega.{arith}
+use borrow.Author.Needs.{needs}
+use denote.Ref.{now}
 use Rattle.base.proofs.Checks.{eq-stop, eq-skip}
 use Rattle.summary_bits.specs.Bits.{withOff, offBit}
 use Rattle.summary_bits.specs.Summary.{lowered}
 use Rattle.summary_bits.proofs.Number.{one-shl}
-use borrow.Author.Needs.{needs}
+use Rattle.summary_bits.proofs.Choice.{off-masked}
 use Rattle.summary_bits.proofs.clear.Statement.{statement}
 use Rattle.summary_bits.proofs.clear.Tie as tie
 
@@ -32,17 +34,17 @@ mul-words c = search needs
 slice-write-words : tie.Need-slice-write-words
 slice-write-words c = search needs
 
+mul-held : tie.Need-mul-held
+mul-held c = search needs
+
+slice-read-held : tie.Need-slice-read-held
+slice-read-held c = search needs
+
+shl-bit : tie.Need-shl-bit
+shl-bit c = search needs
+
 mul-summary : tie.Need-mul-summary
 mul-summary c = search needs
-
-slice-read-summary : tie.Need-slice-read-summary
-slice-read-summary c = search needs
-
-shl-summary : tie.Need-shl-summary
-shl-summary c = search needs
-
-mul-summary-2 : tie.Need-mul-summary-2
-mul-summary-2 c = search needs
 
 slice-write-summary : tie.Need-slice-write-summary
 slice-write-summary c = search needs
@@ -56,9 +58,9 @@ same-length-2 c = search needs
 returns : tie.Need-returns
 unfolding withOff offBit lowered
 returns c =
-    let a = c .before .before .before .before .before .args in
+    let a = c .before .before .before .before .before .before .args in
     let one = one-shl (a .coord .0 % 64) (omega arith) in
-    (rw one, eq-stop _ _ _ _ _ (rw one at (c .before .if1 .taken)) (rw (one-shl (a .coord .0 / 64 % 64) (omega arith))))
+    (rw one, eq-stop _ _ _ _ _ (rw one at (c .before .before .if1 .taken)) (rw (one-shl (a .coord .0 / 64 % 64) (omega arith))))
 
 same-length-3 : tie.Need-same-length-3
 same-length-3 c = search needs
@@ -66,6 +68,21 @@ same-length-3 c = search needs
 returns-2 : tie.Need-returns-2
 unfolding withOff offBit lowered
 returns-2 c =
+    let k = c .before in
+    let a = k .before .before .before .before .before .args in
+    let w = a .coord .0 / 64 in
+    let one = one-shl (a .coord .0 % 64) (omega arith) in (
+      rw one,
+      eq-stop _ _ _ _ _ (rw one at (k .before .if1 .taken))
+          (sym (off-masked (now (a .summary)) w (omega (arith, k .slice-known2 .given (w / 64))) (rw (one-shl (w % 64) (omega arith)) at (c .if2 .left)))),
+    )
+
+same-length-4 : tie.Need-same-length-4
+same-length-4 c = search needs
+
+returns-3 : tie.Need-returns-3
+unfolding withOff offBit lowered
+returns-3 c =
     let a = c .before .before .before .before .args in
     let one = one-shl (a .coord .0 % 64) (omega arith) in
     (rw one, eq-skip _ _ _ _ _ (rw one at (c .if1 .left)) refl)
@@ -81,13 +98,15 @@ clear-spec =
     shl-left
     mul-words
     slice-write-words
+    mul-held
+    slice-read-held
+    shl-bit
     mul-summary
-    slice-read-summary
-    shl-summary
-    mul-summary-2
     slice-write-summary
     same-length
     same-length-2
     returns
     same-length-3
-    returns-2)
+    returns-2
+    same-length-4
+    returns-3)
