@@ -1,5 +1,6 @@
 // Lists of operations on a set of bits, a list to a call: a crossing of the C border for each operation would be most of its time.
-// Nothing can be required of C, so each function looks at its arguments and answers how many operations it has run.
+// Nothing can be required of C, so each function looks at its arguments. It answers the length of the list where all operations were run,
+// and less where something did not fit.
 ghost use mathlib.Core.Path.{_≡_};
 ghost use mathlib.Core.Bool.{false};
 ghost use Prim.Native.Nat.{ℕ, _+_, _*_, _≤_, _<_, min};
@@ -100,7 +101,7 @@ fn set_eight(words: &mut [u64], summary: &mut [u64], indices: &[u32; 8])
 // to the words leaves the list alone, and after a branch that was guessed wrong the next index would have to be read first.
 fn set_blocks(words: &mut [u64], summary: &mut [u64], at: &[u32]) -> usize
     requires { ⌜ Fits (now words) (now summary) × (length (now summary) ≤ 1024) ⌝ }
-    ensures { λ _. ⌜ (length (now (words .exit)) ≡ length (now (words .entry))) × (length (now (summary .exit)) ≡ length (now (summary .entry))) ⌝ }
+    ensures { λ r. ⌜ (length (now (words .exit)) ≡ length (now (words .entry))) × (length (now (summary .exit)) ≡ length (now (summary .entry))) × (r ≤ length (now (at .entry))) ⌝ }
 {
     let limit = (words.len() * 64) as u32;
     let mut k = 0;
@@ -115,18 +116,29 @@ fn set_blocks(words: &mut [u64], summary: &mut [u64], at: &[u32]) -> usize
     k
 }
 
-fn set_rest(words: &mut [u64], summary: &mut [u64], at: &[u32], from: usize) -> usize
-    requires { ⌜ Fits (now words) (now summary) ⌝ }
+// Runs the list, which is not empty, one operation after the other, and answers whether all were run: an index past the words ends it.
+// The next index is read before the operation: the compiler can't tell that a store to the words leaves the list alone, so after a branch
+// that was guessed wrong the index would have to be read first.
+fn set_all(words: &mut [u64], summary: &mut [u64], at: &[u32]) -> bool
+    requires { ⌜ Fits (now words) (now summary) × (length (now summary) ≤ 1024) × (0 < length (now at)) ⌝ }
 {
-    let mut k = from;
+    let limit = (words.len() * 64) as u32;
+    let mut index = at[0];
+    if limit <= index {
+        return false;
+    }
+    let mut k = 1;
     while k < at.len() {
-        if words.len() * 64 <= at[k] as usize {
-            return k;
+        let next = at[k];
+        if limit <= next {
+            return false;
         }
-        summary_bits::set(words, summary, Coord(at[k]));
+        summary_bits::set(words, summary, Coord(index));
+        index = next;
         k += 1;
     }
-    k
+    summary_bits::set(words, summary, Coord(index));
+    true
 }
 
 // One operation after the other.
@@ -135,17 +147,29 @@ pub extern "C" fn bits_set_each(words: &mut [u64], summary: &mut [u64], at: &[u3
     if misfit(words, summary) {
         return 0;
     }
-    set_rest(words, summary, at, 0)
+    if at.len() == 0 {
+        return 0;
+    }
+    if set_all(words, summary, at) {
+        return at.len();
+    }
+    0
 }
 
-// In eights.
+// In eights, and what is left one after the other.
 #[no_mangle]
 pub extern "C" fn bits_set(words: &mut [u64], summary: &mut [u64], at: &[u32]) -> usize {
     if misfit(words, summary) {
         return 0;
     }
     let k = set_blocks(words, summary, at);
-    set_rest(words, summary, at, k)
+    if k == at.len() {
+        return k;
+    }
+    if set_all(words, summary, &at[k..at.len()]) {
+        return at.len();
+    }
+    k
 }
 
 fn clear_eight(words: &mut [u64], summary: &mut [u64], indices: &[u32; 8])
@@ -161,7 +185,7 @@ fn clear_eight(words: &mut [u64], summary: &mut [u64], indices: &[u32; 8])
 
 fn clear_blocks(words: &mut [u64], summary: &mut [u64], at: &[u32]) -> usize
     requires { ⌜ Fits (now words) (now summary) × (length (now summary) ≤ 1024) ⌝ }
-    ensures { λ _. ⌜ (length (now (words .exit)) ≡ length (now (words .entry))) × (length (now (summary .exit)) ≡ length (now (summary .entry))) ⌝ }
+    ensures { λ r. ⌜ (length (now (words .exit)) ≡ length (now (words .entry))) × (length (now (summary .exit)) ≡ length (now (summary .entry))) × (r ≤ length (now (at .entry))) ⌝ }
 {
     let limit = (words.len() * 64) as u32;
     let mut k = 0;
@@ -176,18 +200,26 @@ fn clear_blocks(words: &mut [u64], summary: &mut [u64], at: &[u32]) -> usize
     k
 }
 
-fn clear_rest(words: &mut [u64], summary: &mut [u64], at: &[u32], from: usize) -> usize
-    requires { ⌜ Fits (now words) (now summary) ⌝ }
+fn clear_all(words: &mut [u64], summary: &mut [u64], at: &[u32]) -> bool
+    requires { ⌜ Fits (now words) (now summary) × (length (now summary) ≤ 1024) × (0 < length (now at)) ⌝ }
 {
-    let mut k = from;
+    let limit = (words.len() * 64) as u32;
+    let mut index = at[0];
+    if limit <= index {
+        return false;
+    }
+    let mut k = 1;
     while k < at.len() {
-        if words.len() * 64 <= at[k] as usize {
-            return k;
+        let next = at[k];
+        if limit <= next {
+            return false;
         }
-        summary_bits::clear(words, summary, Coord(at[k]));
+        summary_bits::clear(words, summary, Coord(index));
+        index = next;
         k += 1;
     }
-    k
+    summary_bits::clear(words, summary, Coord(index));
+    true
 }
 
 // One operation after the other.
@@ -196,17 +228,29 @@ pub extern "C" fn bits_clear_each(words: &mut [u64], summary: &mut [u64], at: &[
     if misfit(words, summary) {
         return 0;
     }
-    clear_rest(words, summary, at, 0)
+    if at.len() == 0 {
+        return 0;
+    }
+    if clear_all(words, summary, at) {
+        return at.len();
+    }
+    0
 }
 
-// In eights.
+// In eights, and what is left one after the other.
 #[no_mangle]
 pub extern "C" fn bits_clear(words: &mut [u64], summary: &mut [u64], at: &[u32]) -> usize {
     if misfit(words, summary) {
         return 0;
     }
     let k = clear_blocks(words, summary, at);
-    clear_rest(words, summary, at, k)
+    if k == at.len() {
+        return k;
+    }
+    if clear_all(words, summary, &at[k..at.len()]) {
+        return at.len();
+    }
+    k
 }
 
 #[no_mangle]

@@ -1,4 +1,4 @@
--- `bits_clear` runs the list within its bounds: the sizes were looked at first, and the blocks keep them.
+-- `bits_clear` runs the list within its bounds: the sizes were looked at first, the blocks keep them, and what is left is not empty.
 use native.Mathlib.Omega.{arith}
 use borrow.Author.Needs.{needs}
 use Rattle.bench_leaves.proofs.bits.bits_clear.Statement.{statement}
@@ -21,13 +21,6 @@ clear-blocks-requires c κs =
     let d = c .before .before in
     d .before .misfit .ensures (d .if1 .left)
 
-clear-rest-requires : tie.Need-clear-rest-requires
-clear-rest-requires c κs =
-    let b = c .before .before .before .before .before .before in
-    let d = b .before .before .before in
-    let f = d .before .misfit .ensures (d .if1 .left) .0 in
-    record { room = omega (arith, f, b .clear-blocks .ensures); small = omega (arith, f, b .clear-blocks .ensures) }
-
 same-length-3 : tie.Need-same-length-3
 same-length-3 c = search needs
 
@@ -36,6 +29,45 @@ same-length-4 c = search needs
 
 returns-2 : tie.Need-returns-2
 returns-2 c = search needs
+
+mul-clear-all : tie.Need-mul-clear-all
+mul-clear-all c = search needs
+
+sub-clear-all : tie.Need-sub-clear-all
+sub-clear-all c = search needs
+
+part-clear-all-start : tie.Need-part-clear-all-start
+part-clear-all-start c = search needs
+
+part-clear-all-end : tie.Need-part-clear-all-end
+part-clear-all-end c = search needs
+
+clear-all-requires : tie.Need-clear-all-requires
+clear-all-requires c κs =
+    let e = c .before .before .before in
+    let b = e .before .before .before .before .before in
+    let d = b .before .before .before in
+    let f = d .before .misfit .ensures (d .if1 .left) in
+    let g = b .clear-blocks .ensures in
+    (record { room = omega (arith, f .0, g); small = omega (arith, f .0, g) }, omega (arith, f .1, g), search needs)
+
+same-length-5 : tie.Need-same-length-5
+same-length-5 c = search needs
+
+same-length-6 : tie.Need-same-length-6
+same-length-6 c = search needs
+
+returns-3 : tie.Need-returns-3
+returns-3 c = search needs
+
+same-length-7 : tie.Need-same-length-7
+same-length-7 c = search needs
+
+same-length-8 : tie.Need-same-length-8
+same-length-8 c = search needs
+
+returns-4 : tie.Need-returns-4
+returns-4 c = search needs
 
 pub bits-clear-spec : {M : Type 1} → statement M
 bits-clear-spec =
@@ -46,7 +78,17 @@ bits-clear-spec =
     same-length-2
     returns
     clear-blocks-requires
-    clear-rest-requires
     same-length-3
     same-length-4
-    returns-2)
+    returns-2
+    mul-clear-all
+    sub-clear-all
+    part-clear-all-start
+    part-clear-all-end
+    clear-all-requires
+    same-length-5
+    same-length-6
+    returns-3
+    same-length-7
+    same-length-8
+    returns-4)
