@@ -86,20 +86,32 @@ fn beyond(indices: &[u32; 8], limit: u32) -> bool
     false
 }
 
-fn set_eight(words: &mut [u64], summary: &mut [u64], indices: &[u32; 8])
+// Sets or clears one bit. The compiler makes a loop for each of the two.
+fn run(words: &mut [u64], summary: &mut [u64], coord: Coord, on: bool)
+    requires { ⌜ Fits (now words) (now summary) × (coord .0 < length (now words) * 64) ⌝ }
+    ensures { λ _. ⌜ (length (now (words .exit)) ≡ length (now (words .entry))) × (length (now (summary .exit)) ≡ length (now (summary .entry))) ⌝ }
+{
+    if on {
+        summary_bits::set(words, summary, coord);
+    } else {
+        summary_bits::clear(words, summary, coord);
+    }
+}
+
+fn run_eight(words: &mut [u64], summary: &mut [u64], indices: &[u32; 8], on: bool)
     requires { ⌜ Fits (now words) (now summary) × ((j : ℕ) → j < 8 → getD (now indices) j 0 < length (now words) * 64) ⌝ }
     ensures { λ _. ⌜ (length (now (words .exit)) ≡ length (now (words .entry))) × (length (now (summary .exit)) ≡ length (now (summary .entry))) ⌝ }
 {
     let mut j = 0;
     while j < 8 {
-        summary_bits::set(words, summary, Coord(indices[j]));
+        run(words, summary, Coord(indices[j]), on);
         j += 1;
     }
 }
 
 // Runs the list in eights, as far as none of eight lies past the words. The eight are read before any is run: the compiler can't tell that a store
 // to the words leaves the list alone, and after a branch that was guessed wrong the next index would have to be read first.
-fn set_blocks(words: &mut [u64], summary: &mut [u64], at: &[u32]) -> usize
+fn run_blocks(words: &mut [u64], summary: &mut [u64], at: &[u32], on: bool) -> usize
     requires { ⌜ Fits (now words) (now summary) × (length (now summary) ≤ 1024) ⌝ }
     ensures { λ r. ⌜ (length (now (words .exit)) ≡ length (now (words .entry))) × (length (now (summary .exit)) ≡ length (now (summary .entry))) × (r ≤ length (now (at .entry))) ⌝ }
 {
@@ -110,7 +122,7 @@ fn set_blocks(words: &mut [u64], summary: &mut [u64], at: &[u32]) -> usize
         if beyond(&indices, limit) {
             return k;
         }
-        set_eight(words, summary, &indices);
+        run_eight(words, summary, &indices, on);
         k += 8;
     }
     k
@@ -119,7 +131,7 @@ fn set_blocks(words: &mut [u64], summary: &mut [u64], at: &[u32]) -> usize
 // Runs the list, which is not empty, one operation after the other, and answers whether all were run: an index past the words ends it.
 // The next index is read before the operation: the compiler can't tell that a store to the words leaves the list alone, so after a branch
 // that was guessed wrong the index would have to be read first.
-fn set_all(words: &mut [u64], summary: &mut [u64], at: &[u32]) -> bool
+fn run_all(words: &mut [u64], summary: &mut [u64], at: &[u32], on: bool) -> bool
     requires { ⌜ Fits (now words) (now summary) × (length (now summary) ≤ 1024) × (0 < length (now at)) ⌝ }
 {
     let limit = (words.len() * 64) as u32;
@@ -133,124 +145,61 @@ fn set_all(words: &mut [u64], summary: &mut [u64], at: &[u32]) -> bool
         if limit <= next {
             return false;
         }
-        summary_bits::set(words, summary, Coord(index));
+        run(words, summary, Coord(index), on);
         index = next;
         k += 1;
     }
-    summary_bits::set(words, summary, Coord(index));
+    run(words, summary, Coord(index), on);
     true
 }
 
 // One operation after the other.
+fn run_each(words: &mut [u64], summary: &mut [u64], at: &[u32], on: bool) -> usize {
+    if misfit(words, summary) {
+        return 0;
+    }
+    if at.len() == 0 {
+        return 0;
+    }
+    if run_all(words, summary, at, on) {
+        return at.len();
+    }
+    0
+}
+
+// In eights, and what is left one after the other.
+fn run_list(words: &mut [u64], summary: &mut [u64], at: &[u32], on: bool) -> usize {
+    if misfit(words, summary) {
+        return 0;
+    }
+    let k = run_blocks(words, summary, at, on);
+    if k == at.len() {
+        return k;
+    }
+    if run_all(words, summary, &at[k..at.len()], on) {
+        return at.len();
+    }
+    k
+}
+
 #[no_mangle]
 pub extern "C" fn bits_set_each(words: &mut [u64], summary: &mut [u64], at: &[u32]) -> usize {
-    if misfit(words, summary) {
-        return 0;
-    }
-    if at.len() == 0 {
-        return 0;
-    }
-    if set_all(words, summary, at) {
-        return at.len();
-    }
-    0
+    run_each(words, summary, at, true)
 }
 
-// In eights, and what is left one after the other.
-#[no_mangle]
-pub extern "C" fn bits_set(words: &mut [u64], summary: &mut [u64], at: &[u32]) -> usize {
-    if misfit(words, summary) {
-        return 0;
-    }
-    let k = set_blocks(words, summary, at);
-    if k == at.len() {
-        return k;
-    }
-    if set_all(words, summary, &at[k..at.len()]) {
-        return at.len();
-    }
-    k
-}
-
-fn clear_eight(words: &mut [u64], summary: &mut [u64], indices: &[u32; 8])
-    requires { ⌜ Fits (now words) (now summary) × ((j : ℕ) → j < 8 → getD (now indices) j 0 < length (now words) * 64) ⌝ }
-    ensures { λ _. ⌜ (length (now (words .exit)) ≡ length (now (words .entry))) × (length (now (summary .exit)) ≡ length (now (summary .entry))) ⌝ }
-{
-    let mut j = 0;
-    while j < 8 {
-        summary_bits::clear(words, summary, Coord(indices[j]));
-        j += 1;
-    }
-}
-
-fn clear_blocks(words: &mut [u64], summary: &mut [u64], at: &[u32]) -> usize
-    requires { ⌜ Fits (now words) (now summary) × (length (now summary) ≤ 1024) ⌝ }
-    ensures { λ r. ⌜ (length (now (words .exit)) ≡ length (now (words .entry))) × (length (now (summary .exit)) ≡ length (now (summary .entry))) × (r ≤ length (now (at .entry))) ⌝ }
-{
-    let limit = (words.len() * 64) as u32;
-    let mut k = 0;
-    while 8 <= at.len() - k {
-        let indices = eight(at, k);
-        if beyond(&indices, limit) {
-            return k;
-        }
-        clear_eight(words, summary, &indices);
-        k += 8;
-    }
-    k
-}
-
-fn clear_all(words: &mut [u64], summary: &mut [u64], at: &[u32]) -> bool
-    requires { ⌜ Fits (now words) (now summary) × (length (now summary) ≤ 1024) × (0 < length (now at)) ⌝ }
-{
-    let limit = (words.len() * 64) as u32;
-    let mut index = at[0];
-    if limit <= index {
-        return false;
-    }
-    let mut k = 1;
-    while k < at.len() {
-        let next = at[k];
-        if limit <= next {
-            return false;
-        }
-        summary_bits::clear(words, summary, Coord(index));
-        index = next;
-        k += 1;
-    }
-    summary_bits::clear(words, summary, Coord(index));
-    true
-}
-
-// One operation after the other.
 #[no_mangle]
 pub extern "C" fn bits_clear_each(words: &mut [u64], summary: &mut [u64], at: &[u32]) -> usize {
-    if misfit(words, summary) {
-        return 0;
-    }
-    if at.len() == 0 {
-        return 0;
-    }
-    if clear_all(words, summary, at) {
-        return at.len();
-    }
-    0
+    run_each(words, summary, at, false)
 }
 
-// In eights, and what is left one after the other.
+#[no_mangle]
+pub extern "C" fn bits_set(words: &mut [u64], summary: &mut [u64], at: &[u32]) -> usize {
+    run_list(words, summary, at, true)
+}
+
 #[no_mangle]
 pub extern "C" fn bits_clear(words: &mut [u64], summary: &mut [u64], at: &[u32]) -> usize {
-    if misfit(words, summary) {
-        return 0;
-    }
-    let k = clear_blocks(words, summary, at);
-    if k == at.len() {
-        return k;
-    }
-    if clear_all(words, summary, &at[k..at.len()]) {
-        return at.len();
-    }
-    k
+    run_list(words, summary, at, false)
 }
 
 #[no_mangle]

@@ -1,8 +1,8 @@
--- `bits_clear_each` runs the list within its bounds: the sizes were looked at first.
+-- `run_each` runs the list within its bounds: the sizes were looked at first.
 use native.Mathlib.Omega.{arith}
 use borrow.Author.Needs.{needs}
-use Rattle.bench_leaves.proofs.bits.bits_clear_each.Statement.{statement}
-use Rattle.bench_leaves.proofs.bits.bits_clear_each.Tie as tie
+use Rattle.bench_leaves.proofs.bits.run_each.Statement.{statement}
+use Rattle.bench_leaves.proofs.bits.run_each.Tie as tie
 
 misfit-requires : tie.Need-misfit-requires
 misfit-requires c κs = search needs
@@ -25,8 +25,8 @@ same-length-4 c = search needs
 returns-2 : tie.Need-returns-2
 returns-2 c = search needs
 
-clear-all-requires : tie.Need-clear-all-requires
-clear-all-requires c κs =
+run-all-requires : tie.Need-run-all-requires
+run-all-requires c κs =
     let e = c .before .before in
     let f = e .before .before .misfit .ensures (e .before .if1 .left) in
     (f .0, f .1, omega (arith, e .if2 .left))
@@ -49,8 +49,8 @@ same-length-8 c = search needs
 returns-4 : tie.Need-returns-4
 returns-4 c = search needs
 
-pub bits-clear-each-spec : {M : Type 1} → statement M
-bits-clear-each-spec =
+pub run-each-spec : {M : Type 1} → statement M
+run-each-spec =
     tie.close
     (tie.spec
     misfit-requires
@@ -60,7 +60,7 @@ bits-clear-each-spec =
     same-length-3
     same-length-4
     returns-2
-    clear-all-requires
+    run-all-requires
     same-length-5
     same-length-6
     returns-3

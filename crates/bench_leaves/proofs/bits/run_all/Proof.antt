@@ -1,17 +1,17 @@
--- `clear_all` runs the list within its bounds: the stores keep the sizes, and each index is seen to lie below the end before its operation.
+-- `run_all` runs the list within its bounds: the stores keep the sizes, and each index is seen to lie below the end before its operation.
 use mathlib.Core.Path.{_≡_, refl}
 use Prim.Native.Nat.{_-_, _*_, _<_}
 use lib.ListN.{length}
 use Rattle.summary_bits.specs.Summary.{Fits}
 use borrow.Author.Needs.{needs}
-use Rattle.bench_leaves.proofs.bits.clear_all.Statement.{statement}
-use Rattle.bench_leaves.proofs.bits.clear_all.Tie as tie
+use Rattle.bench_leaves.proofs.bits.run_all.Statement.{statement}
+use Rattle.bench_leaves.proofs.bits.run_all.Tie as tie
 
 abbrev Inv-loop : tie.InvT-loop
-Inv-loop words₀ summary₀ at limit index₀ k₀ words summary index k = (length words ≡ length words₀) × (length summary ≡ length summary₀) × Fits words summary × (index < length words * 64)
+Inv-loop words₀ summary₀ at on limit index₀ k₀ words summary index k = (length words ≡ length words₀) × (length summary ≡ length summary₀) × Fits words summary × (index < length words * 64)
 
 abbrev μ-loop : tie.MeasureT-loop
-μ-loop words₀ summary₀ at limit index₀ k₀ words summary index k = length at - k
+μ-loop words₀ summary₀ at on limit index₀ k₀ words summary index k = length at - k
 
 mul-limit : tie.Need-mul-limit Inv-loop μ-loop
 mul-limit c = search needs
@@ -43,8 +43,8 @@ same-length-2 c = search needs
 returns-2 : tie.Need-returns-2 Inv-loop μ-loop
 returns-2 c = search needs
 
-clear-requires : tie.Need-clear-requires Inv-loop μ-loop
-clear-requires c κs = search needs
+run-requires : tie.Need-run-requires Inv-loop μ-loop
+run-requires c κs = search needs
 
 add-k : tie.Need-add-k Inv-loop μ-loop
 add-k c = search needs
@@ -55,8 +55,8 @@ loop-less c = search needs
 loop-again : tie.Need-loop-again Inv-loop μ-loop
 loop-again c = search needs
 
-clear-requires-2 : tie.Need-clear-requires-2 Inv-loop μ-loop
-clear-requires-2 c κs = search needs
+run-requires-2 : tie.Need-run-requires-2 Inv-loop μ-loop
+run-requires-2 c κs = search needs
 
 same-length-3 : tie.Need-same-length-3 Inv-loop μ-loop
 same-length-3 c = search needs
@@ -67,8 +67,8 @@ same-length-4 c = search needs
 returns-3 : tie.Need-returns-3 Inv-loop μ-loop
 returns-3 c = search needs
 
-pub clear-all-spec : {M : Type 1} → statement M
-clear-all-spec =
+pub run-all-spec : {M : Type 1} → statement M
+run-all-spec =
     tie.close
     (tie.spec
     Inv-loop
@@ -83,11 +83,11 @@ clear-all-spec =
     same-length
     same-length-2
     returns-2
-    clear-requires
+    run-requires
     add-k
     loop-less
     loop-again
-    clear-requires-2
+    run-requires-2
     same-length-3
     same-length-4
     returns-3)

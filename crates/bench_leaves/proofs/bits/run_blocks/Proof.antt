@@ -1,17 +1,17 @@
--- `set_blocks` hands on only eight indices that were seen to be below the end, and ends where fewer are left.
+-- `run_blocks` hands on only eight indices that were seen to be below the end, and ends where fewer are left.
 use mathlib.Core.Path.{_≡_, refl}
 use Prim.Native.Nat.{_-_, _≤_}
 use native.Mathlib.Omega.{arith}
 use lib.ListN.{length}
 use borrow.Author.Needs.{needs}
-use Rattle.bench_leaves.proofs.bits.set_blocks.Statement.{statement}
-use Rattle.bench_leaves.proofs.bits.set_blocks.Tie as tie
+use Rattle.bench_leaves.proofs.bits.run_blocks.Statement.{statement}
+use Rattle.bench_leaves.proofs.bits.run_blocks.Tie as tie
 
 abbrev Inv-loop : tie.InvT-loop
-Inv-loop words₀ summary₀ at limit k₀ words summary k = (k ≤ length at) × (length words ≡ length words₀) × (length summary ≡ length summary₀)
+Inv-loop words₀ summary₀ at on limit k₀ words summary k = (k ≤ length at) × (length words ≡ length words₀) × (length summary ≡ length summary₀)
 
 abbrev μ-loop : tie.MeasureT-loop
-μ-loop words₀ summary₀ at limit k₀ words summary k = length at - k
+μ-loop words₀ summary₀ at on limit k₀ words summary k = length at - k
 
 mul-limit : tie.Need-mul-limit Inv-loop μ-loop
 mul-limit c = search needs
@@ -40,8 +40,8 @@ same-length-2 c = search needs
 returns : tie.Need-returns Inv-loop μ-loop
 returns c = search needs
 
-set-eight-requires : tie.Need-set-eight-requires Inv-loop μ-loop
-set-eight-requires c κs =
+run-eight-requires : tie.Need-run-eight-requires Inv-loop μ-loop
+run-eight-requires c κs =
     let d = c .before .before .before in
     (search needs, λ j l. omega (arith, d .before .beyond .ensures (d .if1 .left) j l))
 
@@ -63,8 +63,8 @@ same-length-4 c = search needs
 returns-2 : tie.Need-returns-2 Inv-loop μ-loop
 returns-2 c = search needs
 
-pub set-blocks-spec : {M : Type 1} → statement M
-set-blocks-spec =
+pub run-blocks-spec : {M : Type 1} → statement M
+run-blocks-spec =
     tie.close
     (tie.spec
     Inv-loop
@@ -78,7 +78,7 @@ set-blocks-spec =
     same-length
     same-length-2
     returns
-    set-eight-requires
+    run-eight-requires
     add-k
     loop-less
     loop-again
