@@ -1,7 +1,7 @@
 //! set, clear and the two searches against the original's `SummaryBitSet`, a list of operations to a call on both sides.
 //!
-//! The original goes through its list one operation after the other. The proved list calls of `set` and `clear` read, check and run eight at a time;
-//! so these two are shown twice more with both sides alike: one by one, and in eights, which the compiler unrolls.
+//! `set` and `clear` go through their list by three loops, each the same on both sides: one operation after the other, each index read just before
+//! it; with the next index read before the operation; and in eights, which the compiler unrolls. The goal is judged by the first.
 //!
 //! Each row has a pool of different sets and lists. A round runs the whole pool on one side and then on the other, the sides taking turns at
 //! going first; a row shows the median of the rounds' ratios. Before any time is taken the two sides' answers and states are compared.
@@ -15,8 +15,10 @@ use std::hint::black_box;
 extern "C" {
     fn bits_set(words: *mut u64, nw: usize, summary: *mut u64, ns: usize, at: *const u32, n: usize) -> usize;
     fn bits_clear(words: *mut u64, nw: usize, summary: *mut u64, ns: usize, at: *const u32, n: usize) -> usize;
-    fn bits_set_each(words: *mut u64, nw: usize, summary: *mut u64, ns: usize, at: *const u32, n: usize) -> usize;
-    fn bits_clear_each(words: *mut u64, nw: usize, summary: *mut u64, ns: usize, at: *const u32, n: usize) -> usize;
+    fn bits_set_ahead(words: *mut u64, nw: usize, summary: *mut u64, ns: usize, at: *const u32, n: usize) -> usize;
+    fn bits_clear_ahead(words: *mut u64, nw: usize, summary: *mut u64, ns: usize, at: *const u32, n: usize) -> usize;
+    fn bits_set_eights(words: *mut u64, nw: usize, summary: *mut u64, ns: usize, at: *const u32, n: usize) -> usize;
+    fn bits_clear_eights(words: *mut u64, nw: usize, summary: *mut u64, ns: usize, at: *const u32, n: usize) -> usize;
     fn bits_prev(words: *const u64, nw: usize, summary: *const u64, ns: usize, at: *const u32, n: usize, out: *mut u32, no: usize) -> usize;
     fn bits_next(words: *const u64, nw: usize, summary: *const u64, ns: usize, at: *const u32, n: usize, out: *mut u32, no: usize) -> usize;
 }
@@ -25,8 +27,8 @@ extern "C" {
 enum Operation {
     Set,
     Clear,
-    SetEach,
-    ClearEach,
+    SetAhead,
+    ClearAhead,
     SetEights,
     ClearEights,
     Prev,
@@ -45,15 +47,33 @@ const NOTHING: u32 = u32::MAX;
 #[inline(never)]
 fn original(op: Operation, w: &mut Work) {
     match op {
-        Operation::Set | Operation::SetEach => {
+        Operation::Set => {
             for &i in &w.at {
                 w.set.set(i as usize);
             }
         }
-        Operation::Clear | Operation::ClearEach => {
+        Operation::Clear => {
             for &i in &w.at {
                 w.set.clear(i as usize);
             }
+        }
+        Operation::SetAhead => {
+            let Some((&first, rest)) = w.at.split_first() else { return };
+            let mut index = first;
+            for &next in rest {
+                w.set.set(index as usize);
+                index = next;
+            }
+            w.set.set(index as usize);
+        }
+        Operation::ClearAhead => {
+            let Some((&first, rest)) = w.at.split_first() else { return };
+            let mut index = first;
+            for &next in rest {
+                w.set.clear(index as usize);
+                index = next;
+            }
+            w.set.clear(index as usize);
         }
         Operation::SetEights => {
             let eights = w.at.chunks_exact(8);
@@ -101,10 +121,12 @@ fn proved(op: Operation, w: &mut Work) {
     // SAFETY: each pointer goes with its slice's own length, and the four slices do not overlap.
     let run = unsafe {
         match op {
-            Operation::Set | Operation::SetEights => bits_set(words, nw, summary, ns, at, n),
-            Operation::Clear | Operation::ClearEights => bits_clear(words, nw, summary, ns, at, n),
-            Operation::SetEach => bits_set_each(words, nw, summary, ns, at, n),
-            Operation::ClearEach => bits_clear_each(words, nw, summary, ns, at, n),
+            Operation::Set => bits_set(words, nw, summary, ns, at, n),
+            Operation::Clear => bits_clear(words, nw, summary, ns, at, n),
+            Operation::SetAhead => bits_set_ahead(words, nw, summary, ns, at, n),
+            Operation::ClearAhead => bits_clear_ahead(words, nw, summary, ns, at, n),
+            Operation::SetEights => bits_set_eights(words, nw, summary, ns, at, n),
+            Operation::ClearEights => bits_clear_eights(words, nw, summary, ns, at, n),
             Operation::Prev => bits_prev(words, nw, summary, ns, at, n, out, no),
             Operation::Next => bits_next(words, nw, summary, ns, at, n, out, no),
         }
@@ -194,8 +216,8 @@ fn main() {
     for (name, op) in [
         ("set", Operation::Set),
         ("clear", Operation::Clear),
-        ("set, one by one", Operation::SetEach),
-        ("clear, one by one", Operation::ClearEach),
+        ("set, reading ahead", Operation::SetAhead),
+        ("clear, reading ahead", Operation::ClearAhead),
         ("set, in eights", Operation::SetEights),
         ("clear, in eights", Operation::ClearEights),
         ("prev_set_before", Operation::Prev),

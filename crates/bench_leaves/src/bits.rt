@@ -128,6 +128,21 @@ fn run_blocks(words: &mut [u64], summary: &mut [u64], at: &[u32], on: bool) -> u
     k
 }
 
+// Runs the list, each index read and tested just before its operation, and answers how many were run.
+fn run_plain(words: &mut [u64], summary: &mut [u64], at: &[u32], on: bool) -> usize
+    requires { ⌜ Fits (now words) (now summary) ⌝ }
+{
+    let mut k = 0;
+    while k < at.len() {
+        if words.len() * 64 <= at[k] as usize {
+            return k;
+        }
+        run(words, summary, Coord(at[k]), on);
+        k += 1;
+    }
+    k
+}
+
 // Runs the list, which is not empty, one operation after the other, and answers whether all were run: an index past the words ends it.
 // The next index is read before the operation: the compiler can't tell that a store to the words leaves the list alone, so after a branch
 // that was guessed wrong the index would have to be read first.
@@ -153,8 +168,16 @@ fn run_all(words: &mut [u64], summary: &mut [u64], at: &[u32], on: bool) -> bool
     true
 }
 
-// One operation after the other.
+// One after the other.
 fn run_each(words: &mut [u64], summary: &mut [u64], at: &[u32], on: bool) -> usize {
+    if misfit(words, summary) {
+        return 0;
+    }
+    run_plain(words, summary, at, on)
+}
+
+// One after the other, with the next index read first.
+fn run_ahead(words: &mut [u64], summary: &mut [u64], at: &[u32], on: bool) -> usize {
     if misfit(words, summary) {
         return 0;
     }
@@ -167,8 +190,8 @@ fn run_each(words: &mut [u64], summary: &mut [u64], at: &[u32], on: bool) -> usi
     0
 }
 
-// In eights, and what is left one after the other.
-fn run_list(words: &mut [u64], summary: &mut [u64], at: &[u32], on: bool) -> usize {
+// In eights, and what is left with the next index read first.
+fn run_eights(words: &mut [u64], summary: &mut [u64], at: &[u32], on: bool) -> usize {
     if misfit(words, summary) {
         return 0;
     }
@@ -183,23 +206,33 @@ fn run_list(words: &mut [u64], summary: &mut [u64], at: &[u32], on: bool) -> usi
 }
 
 #[no_mangle]
-pub extern "C" fn bits_set_each(words: &mut [u64], summary: &mut [u64], at: &[u32]) -> usize {
+pub extern "C" fn bits_set(words: &mut [u64], summary: &mut [u64], at: &[u32]) -> usize {
     run_each(words, summary, at, true)
 }
 
 #[no_mangle]
-pub extern "C" fn bits_clear_each(words: &mut [u64], summary: &mut [u64], at: &[u32]) -> usize {
+pub extern "C" fn bits_clear(words: &mut [u64], summary: &mut [u64], at: &[u32]) -> usize {
     run_each(words, summary, at, false)
 }
 
 #[no_mangle]
-pub extern "C" fn bits_set(words: &mut [u64], summary: &mut [u64], at: &[u32]) -> usize {
-    run_list(words, summary, at, true)
+pub extern "C" fn bits_set_ahead(words: &mut [u64], summary: &mut [u64], at: &[u32]) -> usize {
+    run_ahead(words, summary, at, true)
 }
 
 #[no_mangle]
-pub extern "C" fn bits_clear(words: &mut [u64], summary: &mut [u64], at: &[u32]) -> usize {
-    run_list(words, summary, at, false)
+pub extern "C" fn bits_clear_ahead(words: &mut [u64], summary: &mut [u64], at: &[u32]) -> usize {
+    run_ahead(words, summary, at, false)
+}
+
+#[no_mangle]
+pub extern "C" fn bits_set_eights(words: &mut [u64], summary: &mut [u64], at: &[u32]) -> usize {
+    run_eights(words, summary, at, true)
+}
+
+#[no_mangle]
+pub extern "C" fn bits_clear_eights(words: &mut [u64], summary: &mut [u64], at: &[u32]) -> usize {
+    run_eights(words, summary, at, false)
 }
 
 #[no_mangle]

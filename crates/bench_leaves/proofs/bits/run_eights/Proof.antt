@@ -1,8 +1,8 @@
--- `run_list` runs the list within its bounds: the sizes were looked at first, the blocks keep them, and what is left is not empty.
+-- `run_eights` runs the list within its bounds: the sizes were looked at first, the blocks keep them, and what is left is not empty.
 use native.Mathlib.Omega.{arith}
 use borrow.Author.Needs.{needs}
-use Rattle.bench_leaves.proofs.bits.run_list.Statement.{statement}
-use Rattle.bench_leaves.proofs.bits.run_list.Tie as tie
+use Rattle.bench_leaves.proofs.bits.run_eights.Statement.{statement}
+use Rattle.bench_leaves.proofs.bits.run_eights.Tie as tie
 
 misfit-requires : tie.Need-misfit-requires
 misfit-requires c κs = search needs
@@ -69,8 +69,8 @@ same-length-8 c = search needs
 returns-4 : tie.Need-returns-4
 returns-4 c = search needs
 
-pub run-list-spec : {M : Type 1} → statement M
-run-list-spec =
+pub run-eights-spec : {M : Type 1} → statement M
+run-eights-spec =
     tie.close
     (tie.spec
     misfit-requires
