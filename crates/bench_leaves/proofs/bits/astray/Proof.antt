@@ -70,7 +70,7 @@ returns-3 : tie.Need-returns-3 Inv-loop μ-loop
 unfolding Summary
 returns-3 c = λ e.
     let inv = c .before .loop .inv in
-    (inv .0, λ k. ⊎-elim (λ (u : k < c .before .loop .j). inv .2 k u) (λ (u : c .before .loop .j ≤ k). past-end (now (c .before .before .before .before .before .before .args .summary)) k (omega arith) ∙ omega (arith, List·getD-eq-default (now (c .before .before .before .before .before .before .args .words)) 0 {n = k} (omega arith))) (lt-or-ge k (c .before .loop .j)))
+    (inv .0, inv .1, λ k. ⊎-elim (λ (u : k < c .before .loop .j). inv .2 k u) (λ (u : c .before .loop .j ≤ k). past-end (now (c .before .before .before .before .before .before .args .summary)) k (omega arith) ∙ omega (arith, List·getD-eq-default (now (c .before .before .before .before .before .before .args .words)) 0 {n = k} (omega arith))) (lt-or-ge k (c .before .loop .j)))
 
 pub astray-spec : {M : Type 1} → statement M
 astray-spec =

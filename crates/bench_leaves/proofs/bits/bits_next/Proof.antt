@@ -8,10 +8,10 @@ use Rattle.bench_leaves.proofs.bits.bits_next.Statement.{statement}
 use Rattle.bench_leaves.proofs.bits.bits_next.Tie as tie
 
 abbrev Inv-loop : tie.InvT-loop
-Inv-loop words summary at out₀ k₀ out k = (length out ≡ length out₀) × (length at ≤ length out) × Fits words summary × Summary words summary
+Inv-loop words summary at out₀ k₀ k-end out k = (length out ≡ length out₀) × (length at ≤ length out) × Fits words summary × Summary words summary × (k-end ≡ length at)
 
 abbrev μ-loop : tie.MeasureT-loop
-μ-loop words summary at out₀ k₀ out k = length at - k
+μ-loop words summary at out₀ k₀ k-end out k = k-end - k
 
 astray-requires : tie.Need-astray-requires Inv-loop μ-loop
 astray-requires c κs = search needs
@@ -23,13 +23,13 @@ returns-2 : tie.Need-returns-2 Inv-loop μ-loop
 returns-2 c = search needs
 
 loop-holds : tie.Need-loop-holds Inv-loop μ-loop
-loop-holds c = (refl, search needs, c .before .before .astray .ensures (c .before .if1 .left) .0, c .before .before .astray .ensures (c .before .if1 .left) .1)
+loop-holds c = (refl, search needs, c .before .before .astray .ensures (c .before .if1 .left) .0, c .before .before .astray .ensures (c .before .if1 .left) .2, refl)
 
-mul-t10 : tie.Need-mul-t10 Inv-loop μ-loop
-mul-t10 c = search needs
+mul-t14 : tie.Need-mul-t14 Inv-loop μ-loop
+mul-t14 c = search needs
 
-shared-slice-read-t15 : tie.Need-shared-slice-read-t15 Inv-loop μ-loop
-shared-slice-read-t15 c = search needs
+shared-slice-read-t16 : tie.Need-shared-slice-read-t16 Inv-loop μ-loop
+shared-slice-read-t16 c = search needs
 
 next-set-after-requires : tie.Need-next-set-after-requires Inv-loop μ-loop
 next-set-after-requires c κs = search needs
@@ -68,8 +68,8 @@ bits-next-spec =
     returns
     returns-2
     loop-holds
-    mul-t10
-    shared-slice-read-t15
+    mul-t14
+    shared-slice-read-t16
     next-set-after-requires
     told-requires
     mul-out

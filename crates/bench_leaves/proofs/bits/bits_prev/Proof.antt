@@ -1,18 +1,19 @@
--- `bits_prev` runs the list within its bounds: that the summary goes with the words was looked at first.
+-- `bits_prev` runs the list within its bounds: that the summary goes with the words, and no index lies past their end, was looked at first.
 use mathlib.Core.Path.{_≡_, refl}
-use Prim.Native.Nat.{_-_, _≤_}
+use Prim.Native.Nat.{ℕ, _-_, _*_, _≤_, _<_}
 use native.Mathlib.Omega.{arith}
-use lib.ListN.{length}
+use lib.ListN.{length, getD}
+use Rattle.base.proofs.Lists.{all-at}
 use Rattle.summary_bits.specs.Summary.{Fits, Summary}
 use borrow.Author.Needs.{needs}
 use Rattle.bench_leaves.proofs.bits.bits_prev.Statement.{statement}
 use Rattle.bench_leaves.proofs.bits.bits_prev.Tie as tie
 
 abbrev Inv-loop : tie.InvT-loop
-Inv-loop words summary at out₀ k₀ out k = (length out ≡ length out₀) × (length at ≤ length out) × Fits words summary × Summary words summary
+Inv-loop words summary at out₀ k₀ k-end out k = (length out ≡ length out₀) × (length at ≤ length out) × Fits words summary × Summary words summary × (k-end ≡ length at) × ((i : ℕ) → i < length at → getD at i 0 ≤ length words * 64)
 
 abbrev μ-loop : tie.MeasureT-loop
-μ-loop words summary at out₀ k₀ out k = length at - k
+μ-loop words summary at out₀ k₀ k-end out k = k-end - k
 
 astray-requires : tie.Need-astray-requires Inv-loop μ-loop
 astray-requires c κs = search needs
@@ -23,35 +24,35 @@ returns c = search needs
 returns-2 : tie.Need-returns-2 Inv-loop μ-loop
 returns-2 c = search needs
 
-loop-holds : tie.Need-loop-holds Inv-loop μ-loop
-loop-holds c = (refl, search needs, c .before .before .astray .ensures (c .before .if1 .left) .0, c .before .before .astray .ensures (c .before .if1 .left) .1)
+mul-past : tie.Need-mul-past Inv-loop μ-loop
+mul-past c = omega (arith, c .before .before .astray .ensures (c .before .if1 .left))
 
-mul-if3 : tie.Need-mul-if3 Inv-loop μ-loop
-mul-if3 c = search needs
+cast-past : tie.Need-cast-past Inv-loop μ-loop
+cast-past c = let f = c .before .before .astray .ensures (c .before .if1 .left) in omega (arith, f .0, f .1)
 
-mul-if3-2 : tie.Need-mul-if3-2 Inv-loop μ-loop
-mul-if3-2 c = search needs
-
-shared-slice-read-if3 : tie.Need-shared-slice-read-if3 Inv-loop μ-loop
-shared-slice-read-if3 c = search needs
-
-cast-if3 : tie.Need-cast-if3 Inv-loop μ-loop
-cast-if3 c = omega (arith, c .shared-slice-known4 .given (c .before .before .loop .k))
-
-same-length : tie.Need-same-length Inv-loop μ-loop
-same-length c = search needs
+past-requires : tie.Need-past-requires Inv-loop μ-loop
+past-requires c κs = search needs
 
 returns-3 : tie.Need-returns-3 Inv-loop μ-loop
 returns-3 c = search needs
 
-mul-t10 : tie.Need-mul-t10 Inv-loop μ-loop
-mul-t10 c = search needs
+loop-holds : tie.Need-loop-holds Inv-loop μ-loop
+loop-holds c =
+    let o = c .before .before .before in
+    let s = o .before .astray .ensures (o .if1 .left) in
+    let args = o .before .before .before .before .before .before .args in
+    (refl, search needs, s .0, s .2, refl, all-at (λ i. i ≤ length (args .words .now) * 64) (args .at .now) (c .before .past .ensures (c .if3 .left)))
 
-shared-slice-read-t19 : tie.Need-shared-slice-read-t19 Inv-loop μ-loop
-shared-slice-read-t19 c = search needs
+mul-t16 : tie.Need-mul-t16 Inv-loop μ-loop
+mul-t16 c = search needs
+
+shared-slice-read-t18 : tie.Need-shared-slice-read-t18 Inv-loop μ-loop
+shared-slice-read-t18 c = search needs
 
 prev-set-before-requires : tie.Need-prev-set-before-requires Inv-loop μ-loop
-prev-set-before-requires c κs = search needs
+prev-set-before-requires c κs =
+    let l = c .before .before .loop in
+    (l .inv .2, l .inv .3, l .inv .5 (l .k) (search needs))
 
 told-requires : tie.Need-told-requires Inv-loop μ-loop
 told-requires c κs = search needs
@@ -71,8 +72,8 @@ loop-less c = search needs
 loop-again : tie.Need-loop-again Inv-loop μ-loop
 loop-again c = search needs
 
-same-length-2 : tie.Need-same-length-2 Inv-loop μ-loop
-same-length-2 c = search needs
+same-length : tie.Need-same-length Inv-loop μ-loop
+same-length c = search needs
 
 returns-4 : tie.Need-returns-4 Inv-loop μ-loop
 returns-4 c = search needs
@@ -86,15 +87,13 @@ bits-prev-spec =
     astray-requires
     returns
     returns-2
-    loop-holds
-    mul-if3
-    mul-if3-2
-    shared-slice-read-if3
-    cast-if3
-    same-length
+    mul-past
+    cast-past
+    past-requires
     returns-3
-    mul-t10
-    shared-slice-read-t19
+    loop-holds
+    mul-t16
+    shared-slice-read-t18
     prev-set-before-requires
     told-requires
     mul-out
@@ -102,5 +101,5 @@ bits-prev-spec =
     add-k
     loop-less
     loop-again
-    same-length-2
+    same-length
     returns-4)
