@@ -35,15 +35,17 @@ pub fn set(words: &mut [u64], summary: &mut [u64], coord: Coord)
 }
 
 // The summary is written only where its bit is on: where most words are empty already, clears that follow each other would else wait for
-// one summary word.
+// one summary word. The word is stored in each branch, so that a loop over clears is as fast wherever its code lies.
 pub fn clear(words: &mut [u64], summary: &mut [u64], coord: Coord)
     requires { ⌜ Fits (now words) (now summary) × (coord .0 < length (now words) * 64) ⌝ }
     ensures { λ _. ⌜ (now (words .exit) ≡ withOff (now (words .entry)) (coord .0)) × (now (summary .exit) ≡ lowered (now (words .entry)) (now (summary .entry)) (coord .0)) ⌝ }
 {
     let w = (coord.0 / 64) as usize;
     let left = words[w] & !(1u64 << (coord.0 % 64));
-    words[w] = left;
-    if left == 0 {
+    if left != 0 {
+        words[w] = left;
+    } else {
+        words[w] = 0;
         let s = w / 64;
         let held = summary[s];
         let bit = 1u64 << (w % 64);
