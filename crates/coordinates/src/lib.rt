@@ -2,7 +2,6 @@
 // once. What a sweep wants of them is each hash's number among them, and which are in the query; the coordinates themselves are not kept.
 mod pack;
 mod search;
-mod spread;
 
 ghost use mathlib.Core.Path.{_≡_};
 ghost use lib.ListN.{length};

@@ -9,7 +9,7 @@ ghost use Rattle.base.specs.Pick.{pick};
 ghost use Rattle.coordinates.specs.Coordinates.{Lent, Numbered};
 ghost use Rattle.coordinates.specs.Packed.{Flagged, Placed, Places};
 use super::search::hash_at;
-use super::spread::spread;
+use packed_keys::spread;
 
 // The bits that `seen` or any of the hashes has.
 fn bits_of(hashes: &[u64], seen: u64) -> u64 {

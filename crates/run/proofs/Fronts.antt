@@ -4,7 +4,6 @@ use mathlib.Core.Path.{_≡_, refl, sym, ap, _∙_}
 use mathlib.Core.Bool.{Bool, true, false}
 use mathlib.Core.List.{List, [], map}
 use native.Mathlib.Omega.{arith}
-use borrow.Author.Tests.{eq-eqb, ne-eqb}
 use lib.Dec.{eqb}
 use lib.Ieee.{Float}
 use lib.ListN.{length, take, drop, length-map}
@@ -25,8 +24,10 @@ use Rattle.job.proofs.Decoding.{query-count, items-joined, items-filled, estima
 use Rattle.job_fields.proofs.Picks.{pick-yes, pick-no}
 use Rattle.lines.specs.Written.{linesBy}
 use Rattle.lines.proofs.Writing.{lines-are}
-use Rattle.run.specs.Mapped.{pointsOf, spansOf, minimizerDone, intervalDone, answerIn, Held, linesIn}
-use Rattle.run.proofs.Window.{windowed, window-unseen}
+use Rattle.job_answer.specs.Mapped.{minimizerDone, intervalDone, answerIn}
+use Rattle.job_answer.proofs.Window.{windowed, window-unseen}
+use Rattle.job_answer.proofs.Parts.{less-none}
+use Rattle.run.specs.Held.{Held, linesIn}
 
 -- ---- how long a job's lists are
 
@@ -168,22 +169,6 @@ module _ (j : Job) (p : Parallel j) (l : Lists) where
       (ap (linesBy (j .identityBits) (j .upperBits)) (answer-front (eqb (j .mode) minimizerMode) refl) ∙ lines-are j (jobAnswer j))
 
 -- ---- the parts that the code cuts off
-
-less-none : (k : ℕ) → k - 0 ≡ k
-less-none k = omega arith
-
-module _ (d : Decoded) (q h s e : List ℕ) (i u : List Float) where
-  pub points-in : d .mode ≡ minimizerMode
-      → minimizerDone (pointsOf (d .asked) (d .minimum) (take (d .query - 0) (drop 0 q)) (take (d .items - 0) (drop 0 h)) (take (d .items - 0) (drop 0 s)) (take (d .estimates - 0) (drop 0 i)) (take (d .estimates - 0) (drop 0 u)))
-      ≡ answerIn d q h s e i u
-  unfolding answerIn
-  points-in t = rw (less-none (d .query), less-none (d .items), less-none (d .estimates)) (sym (pick-yes _ _ _ (eq-eqb (d .mode) minimizerMode t)))
-
-  pub spans-in : (d .mode ≡ minimizerMode → ⊥)
-      → intervalDone (spansOf (d .asked) (d .minimum) (take (d .query - 0) (drop 0 q)) (take (d .items - 0) (drop 0 h)) (take (d .items - 0) (drop 0 s)) (take (d .items - 0) (drop 0 e)) (take (d .estimates - 0) (drop 0 i)) (take (d .estimates - 0) (drop 0 u)))
-      ≡ answerIn d q h s e i u
-  unfolding answerIn
-  spans-in t = rw (less-none (d .query), less-none (d .items), less-none (d .estimates)) (sym (pick-no _ _ _ (ne-eqb (d .mode) minimizerMode t)))
 
 pub lines-in : (d : Decoded) (l : Lists) (a : SweepAnswer) → a ≡ answerIn d (l .query) (l .hashes) (l .starts) (l .ends) (l .identities) (l .uppers)
     → linesBy (take (d .estimates - 0) (drop 0 (l .identityBits))) (take (d .estimates - 0) (drop 0 (l .upperBits))) a ≡ linesIn d l

@@ -1,7 +1,3 @@
--- Window: the interval sweep does not look at the window
-pub mod Window
--- Roomy: the program's work lists are never too short
-pub mod Roomy
 -- Fronts: the job at the fronts of the filled lists is the rules'
 pub mod Fronts
 -- Running: the promise of `run`

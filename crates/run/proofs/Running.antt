@@ -20,7 +20,7 @@ use Rattle.job.specs.declared.fill.Decoded.{Decoded}
 use Rattle.job.proofs.Accepted.{read-small}
 use Rattle.lines.specs.Written.{Written}
 use Rattle.lines.proofs.Writing.{front-over}
-use Rattle.run.specs.Mapped.{Held, linesIn}
+use Rattle.run.specs.Held.{Held, linesIn}
 use Rattle.run.proofs.Fronts.{Sized, parallel, within, held, lines-front}
 
 -- the arrays before the reading

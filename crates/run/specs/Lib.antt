@@ -1,2 +1,2 @@
--- Mapped: the job that stands at the fronts of the lists, its answer and its lines
-pub mod Mapped
+-- Held: the job that stands at the fronts of the lists, and its lines
+pub mod Held

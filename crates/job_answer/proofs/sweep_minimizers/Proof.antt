@@ -1,10 +1,10 @@
 -- The minimizer sweep's promise, over arrays that are never too short, is the rules' answer. Assumes nothing.
 use denote.Ref.{now}
-use Rattle.run.specs.Mapped.{pointsOf}
-use Rattle.run.proofs.Roomy.{minimizer-done, arrays, roomy}
+use Rattle.job_answer.specs.Mapped.{pointsOf}
+use Rattle.job_answer.proofs.Roomy.{minimizer-done, arrays, roomy}
 use borrow.Author.Needs.{needs}
-use Rattle.run.proofs.sweep_minimizers.Statement.{statement}
-use Rattle.run.proofs.sweep_minimizers.Tie as tie
+use Rattle.job_answer.proofs.sweep_minimizers.Statement.{statement}
+use Rattle.job_answer.proofs.sweep_minimizers.Tie as tie
 
 slice-aggregate-minimizer-sweep : tie.Need-slice-aggregate-minimizer-sweep
 slice-aggregate-minimizer-sweep c = search needs

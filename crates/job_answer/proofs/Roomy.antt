@@ -19,7 +19,7 @@ use Rattle.rules.specs.Place.{minimizerAnswer, intervalAnswer}
 use Rattle.rules.specs.Refusals.{need, minimizerInputIn, minimizerVerdict, intervalInputIn, intervalVerdict, sweepAnswerOf, minimizerCall, intervalCall}
 use Rattle.rules.specs.Calls.{SweepLent, sweepRoomOf, MinimizerPromise, IntervalPromise}
 use Rattle.rules.proofs.Told.{told-sweep}
-use Rattle.run.specs.Mapped.{minimizerDone, intervalDone}
+use Rattle.job_answer.specs.Mapped.{minimizerDone, intervalDone}
 
 -- a test that a list is too short, of one that is not
 long : (a b : ℕ) (w : Verdict) → b ≤ a → w ≡ Fine → pick (ltb a b) (refuse 8 0) w ≡ Fine
@@ -31,7 +31,7 @@ unfolding orElse
 or-none Fine w e = e
 or-none (No r) w e = refl
 
--- what the work lists of `run` have
+-- what the work lists have
 pub record Roomy (b : SweepLent) : Type 0 where
   pub hashes-are : length (b .hashes) ≡ 2560
   pub counts-are : length (b .counts) ≡ 2560

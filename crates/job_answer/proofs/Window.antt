@@ -9,7 +9,7 @@ use Rattle.rules.specs.Sweep.{Sweep, Scored}
 use Rattle.rules.specs.Interval.{kmersPerStart, isTaken, taken, coordsOf, eventAt, eventKind, eventCoord, eventsOf, events, beginning, span, spansFrom, spans}
 use Rattle.rules.specs.Place.{settledIn, intervalEarly, intervalStats, intervalFrom, intervalAnswer}
 use Rattle.rules.specs.Refusals.{intervalInputIn, sweepAnswerOf}
-use Rattle.run.specs.Mapped.{intervalDone}
+use Rattle.job_answer.specs.Mapped.{intervalDone}
 
 -- the sweep with another window
 abbrev pub windowed : ℕ → Sweep → Sweep

@@ -2,11 +2,11 @@
 use Prim.Native.Nat.{ℕ}
 use denote.Ref.{now}
 use lib.ListN.{replicate, length-replicate}
-use Rattle.run.specs.Mapped.{spansOf}
-use Rattle.run.proofs.Roomy.{interval-done, arrays, roomy}
+use Rattle.job_answer.specs.Mapped.{spansOf}
+use Rattle.job_answer.proofs.Roomy.{interval-done, arrays, roomy}
 use borrow.Author.Needs.{needs}
-use Rattle.run.proofs.sweep_intervals.Statement.{statement}
-use Rattle.run.proofs.sweep_intervals.Tie as tie
+use Rattle.job_answer.proofs.sweep_intervals.Statement.{statement}
+use Rattle.job_answer.proofs.sweep_intervals.Tie as tie
 
 slice-aggregate-interval-sweep : tie.Need-slice-aggregate-interval-sweep
 slice-aggregate-interval-sweep c = search needs

@@ -1,4 +1,4 @@
--- The job that stands at the fronts of the lists that a reading filled, its answer and its lines.
+-- The job that stands at the fronts of the lists that a reading filled, and its answer.
 use Prim.Native.Nat.{ℕ, _≤_}
 use mathlib.Core.List.{List, []}
 use lib.Dec.{eqb}
@@ -10,10 +10,8 @@ use Rattle.rules.specs.Limits.{jobQueryLimit, jobItemLimit, minimizerMode}
 use Rattle.rules.specs.Sweep.{Sweep}
 use Rattle.rules.specs.Place.{minimizerAnswer, intervalAnswer}
 use Rattle.rules.specs.Refusals.{minimizerInputIn, intervalInputIn, sweepAnswerOf}
-use Rattle.job.specs.Read.{Lists}
 use Rattle.job.specs.declared.fill.Asked.{Asked}
 use Rattle.job.specs.declared.fill.Decoded.{Decoded}
-use Rattle.lines.specs.Written.{linesBy}
 
 -- the sweep of a job in minimizer mode: there are no ends
 abbrev pub pointsOf : Asked → Float → (query hashes starts : List ℕ) (identities uppers : List Float) → Sweep
@@ -69,15 +67,3 @@ answerIn d query hashes starts ends identities uppers =
     pick (eqb (d .mode) minimizerMode)
     (minimizerDone (pointsOf (d .asked) (d .minimum) (take (d .query) query) (take (d .items) hashes) (take (d .items) starts) (take (d .estimates) identities) (take (d .estimates) uppers)))
     (intervalDone (spansOf (d .asked) (d .minimum) (take (d .query) query) (take (d .items) hashes) (take (d .items) starts) (take (d .items) ends) (take (d .estimates) identities) (take (d .estimates) uppers)))
-
--- so with the bits of the estimates
-pub record Held (d : Decoded) (l : Lists) : Type 0 where
-  pub rooms : Rooms d (l .query) (l .hashes) (l .starts) (l .ends) (l .identities) (l .uppers)
-  pub identityBit-room : d .estimates ≤ length (l .identityBits)
-  pub upperBit-room : d .estimates ≤ length (l .upperBits)
-
--- the lines of the job at the fronts
-unfoldable pub linesIn : Decoded → Lists → List ℕ
-linesIn d l =
-    linesBy (take (d .estimates) (l .identityBits)) (take (d .estimates) (l .upperBits))
-    (answerIn d (l .query) (l .hashes) (l .starts) (l .ends) (l .identities) (l .uppers))

@@ -1,10 +1,10 @@
 -- The mode picks the sweep; the parts that are lent are the fronts of the lists. Assumes nothing.
 use mathlib.Core.Path.{_∙_}
 use denote.Ref.{now}
-use Rattle.run.proofs.Fronts.{points-in, spans-in}
+use Rattle.job_answer.proofs.Parts.{points-in, spans-in}
 use borrow.Author.Needs.{needs}
-use Rattle.run.proofs.answer_of.Statement.{statement}
-use Rattle.run.proofs.answer_of.Tie as tie
+use Rattle.job_answer.proofs.answer_of.Statement.{statement}
+use Rattle.job_answer.proofs.answer_of.Tie as tie
 
 -- the entry, from the test of the mode
 abbrev entry : tie.After-struct-known → tie.Start
