@@ -21,7 +21,7 @@ use Rattle.rules.specs.Calls.{FinderLent, FinderLeft, IntervalFinderPromise, fi
 use Rattle.rules.proofs.FinderKept.{kept-length}
 use Rattle.candidate_window.specs.declared.work.Found.{Found}
 use Rattle.candidate_window.specs.Given.{lentOf}
-use Rattle.candidate_window.specs.Work.{Room, Listed}
+use Rattle.candidate_ranges.specs.Ranges.{Room, Listed}
 use Rattle.candidate_intervals.specs.declared.intervals.Kept.{Kept}
 use Rattle.interval_cover.specs.Cover.{eventsOf, Intervals}
 use Rattle.candidate_intervals.specs.Work.{Hit, hitsOf, openOf, closeOf, intervalsOf, Gathered, Accepted, Worked}

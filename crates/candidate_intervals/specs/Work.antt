@@ -9,7 +9,7 @@ use Rattle.base.specs.Sort.{sortOf}
 use Rattle.rules.specs.Limits.{itemLimit}
 use Rattle.rules.specs.Lists.{sum, filter}
 use Rattle.rules.specs.Finder.{Finder, kept, seedHits, keyOf, intervalFound}
-use Rattle.candidate_window.specs.Work.{Listed}
+use Rattle.candidate_ranges.specs.Ranges.{Listed}
 use Rattle.candidate_window.specs.declared.work.Found.{Found}
 use Rattle.candidate_intervals.specs.declared.intervals.Kept.{Kept}
 

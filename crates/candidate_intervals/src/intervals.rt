@@ -2,7 +2,7 @@
 ghost use Rattle.candidate_intervals.specs.Work.{Grouped, GroupAt, PutKeys, Filled, Sorted, Gathered, Front};
 use super::paired::sort_paired;
 use buckets::halves::key_of;
-use candidate_window::hits::none_dropped;
+use candidate_hits::none_dropped;
 
 // How many intervals have their keys at the front of the two lists, and how many hits were kept.
 pub struct Kept {
