@@ -21,11 +21,12 @@ use Rattle.rules.specs.Calls.{FinderLent, FinderLeft, IntervalFinderPromise, fi
 use Rattle.rules.proofs.FinderKept.{kept-length}
 use Rattle.candidate_window.specs.declared.work.Found.{Found}
 use Rattle.candidate_window.specs.Given.{lentOf}
-use Rattle.candidate_window.specs.Work.{Room, Listed}
-use Rattle.candidate_intervals.specs.declared.intervals.Kept.{Kept}
+use Rattle.candidate_ranges.specs.Ranges.{Room, Listed}
 use Rattle.interval_cover.specs.Cover.{eventsOf, Intervals}
-use Rattle.candidate_intervals.specs.Work.{Hit, hitsOf, openOf, closeOf, intervalsOf, Gathered, Accepted, Worked}
-use Rattle.candidate_intervals.proofs.Gathering.{hits-length}
+use Rattle.interval_hits.specs.declared.Kept.{Kept}
+use Rattle.interval_hits.specs.Hits.{Hit, hitsOf, openOf, closeOf, intervalsOf, Gathered}
+use Rattle.interval_hits.proofs.Gathering.{hits-length}
+use Rattle.candidate_intervals.specs.Work.{Accepted, Worked}
 use Rattle.candidate_intervals.proofs.Balance.{intervals-balanced, intervals-good, events-of}
 
 -- no more hits are kept than there are

@@ -2,5 +2,3 @@
 pub mod Given
 -- Work: what the parts of the work promise each other
 pub mod Work
--- Paired: the two keys of an interval in one number
-pub mod Paired

@@ -1,8 +1,6 @@
 // The interval finder: of a fragment's interval hits in the reference, the ranges that enough of them cover. The outward call stands here; below
 // it are the checks, which touch no list, and the work over keys of exactly the needed number.
 mod checks;
-mod intervals;
-mod paired;
 mod work;
 
 ghost use Rattle.rules.specs.Calls.{IntervalFinderPromise};

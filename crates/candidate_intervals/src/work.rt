@@ -32,7 +32,7 @@ pub fn work(
     requires { ⌜ Accepted (finderOf (now groups) (now contigs) (now starts) (now ends) threshold minimum) (now opens) (now closes) (now seqs) (now lows) (now highs) ⌝ }
     ensures { λ r. ⌜ Worked (finderOf (now (groups .entry)) (now (contigs .entry)) (now (starts .entry)) (now (ends .entry)) threshold minimum) (now (seqs .entry)) (now (lows .entry)) (now (highs .entry)) (now (opens .exit)) (now (closes .exit)) (now (seqs .exit)) (now (lows .exit)) (now (highs .exit)) r ⌝ }
 {
-    let kept = super::intervals::gather(groups, contigs, starts, ends, threshold, opens, closes);
+    let kept = interval_hits::gather(groups, contigs, starts, ends, threshold, opens, closes);
     let n = kept.intervals;
     let count = interval_cover::list(
         &opens[..n],

@@ -4,8 +4,7 @@ use mathlib.Core.Path.{_≡_, refl, sym, ap, _∙_, subst}
 use mathlib.Core.List.{List, _++_}
 use Prim.Native.Nat.{ℕ, _-_, _≤_}
 use native.Mathlib.Omega.{arith}
-use lib.ListN.{length, take, drop, replicate, length-append}
-use lib.Seq.{take-at}
+use lib.ListN.{length, take, drop, replicate}
 use Rattle.base.specs.Lists.{Asc}
 use Rattle.base.specs.Sort.{sortOf}
 use Rattle.base.specs.declared.Refusal.{Refusal}
@@ -19,20 +18,14 @@ use Rattle.rules.specs.Refusals.{minimizerFinderVerdict, minimizerFinderCall, f
 use Rattle.rules.specs.Told.{toldFinder}
 use Rattle.rules.specs.Calls.{FinderLent, FinderLeft, MinimizerFinderPromise, finderRoomOf}
 use Rattle.rules.proofs.FinderKept.{keys-length, kept-length}
+use Rattle.candidate_hits.proofs.Gathering.{fronted-take, fronted-within}
+use Rattle.candidate_ranges.specs.Ranges.{Keys, Room, Listed}
 use Rattle.candidate_window.specs.declared.work.Found.{Found}
 use Rattle.candidate_window.specs.Given.{lentOf}
-use Rattle.candidate_window.specs.Work.{Keys, Room, Listed, Accepted, Worked}
+use Rattle.candidate_window.specs.Work.{Accepted, Worked}
 
--- ---- the keys at the front
+-- ---- the keys at the front, which are the kept hits in order
 
-module _ {answers entry now : List ℕ} {n : ℕ} (f : Fronted answers entry now n) where
-  pub fronted-take : take n now ≡ answers
-  fronted-take = ap (take n) (f .is) ∙ take-at answers (drop (length answers) entry) n (sym (f .many))
-
-  pub fronted-within : length now ≡ length entry → n ≤ length now
-  fronted-within same = omega (arith, ap length (f .is), length-append answers (drop (length answers) entry), f .many)
-
--- the kept hits in order
 abbrev sorted : Finder → List ℕ
 sorted f = sortOf (kept (f .threshold) (f .groups) (keysOf (f .contigs) (f .starts)))
 

@@ -1,9 +1,6 @@
 // The minimizer finder: of a fragment's hits in the reference, the ranges where the fragment may lie. The outward call stands here; below it
 // are the checks, which touch no list, and the work over keys of exactly the needed number.
-pub mod candidates;
 pub mod checks;
-pub mod hits;
-mod runs;
 pub mod work;
 
 ghost use Rattle.rules.specs.Calls.{MinimizerFinderPromise};

@@ -24,9 +24,9 @@ pub fn work(
     requires { ⌜ Accepted (finderOf (now groups) (now contigs) (now positions) threshold minimum length) (now keys) (now seqs) (now lows) (now highs) ⌝ }
     ensures { λ r. ⌜ Worked (finderOf (now (groups .entry)) (now (contigs .entry)) (now (positions .entry)) threshold minimum length) (now (seqs .entry)) (now (lows .entry)) (now (highs .entry)) (now (keys .exit)) (now (seqs .exit)) (now (lows .exit)) (now (highs .exit)) r ⌝ }
 {
-    let n = super::hits::gather(groups, contigs, positions, threshold, keys);
+    let n = candidate_hits::gather(groups, contigs, positions, threshold, keys);
     let span = minimum as usize - 1;
-    let count = super::runs::list(&keys[..n], span, length as u64, seqs, lows, highs);
+    let count = candidate_ranges::runs::list(&keys[..n], span, length as u64, seqs, lows, highs);
     let hits = keys.len();
     base::clear_words(keys, hits);
     Found {

@@ -12,8 +12,8 @@ use Rattle.rules.specs.Finder.{Candidate, joins, joined, joinAll, coveredTo}
 use Rattle.rules.proofs.Score.{cases}
 use Rattle.rules.proofs.FinderJoin.{join-none, join-first}
 use Rattle.rules.proofs.FinderCovered.{to-below, to-covered}
-use Rattle.candidate_window.specs.Work.{rangeOf, Put, Listing, Listed}
-use Rattle.candidate_window.proofs.Listing.{listing-join, listing-push, listing-end}
+use Rattle.candidate_ranges.specs.Ranges.{rangeOf, Put, Listing, Listed}
+use Rattle.candidate_ranges.proofs.Listing.{listing-join, listing-push, listing-end}
 use Rattle.interval_cover.specs.declared.Held.{Held}
 use Rattle.interval_cover.specs.Cover.{Between, stretch, Kept, Holds, Extended, Holding}
 

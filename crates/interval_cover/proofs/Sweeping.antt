@@ -19,7 +19,7 @@ use Rattle.keys.specs.Lists.{under, below}
 use Rattle.rules.specs.Finder.{Candidate, keyContig, keyAt, joins, joined, joinAll, coveredTo, coveredFrom}
 use Rattle.rules.proofs.Score.{cases}
 use Rattle.rules.proofs.FinderCovered.{active-start, active-end, covered-none, covered-here, covered-move, covered-start}
-use Rattle.candidate_window.specs.Work.{rangeOf, Room}
+use Rattle.candidate_ranges.specs.Ranges.{rangeOf, Room}
 use Rattle.interval_cover.specs.declared.Held.{Held}
 use Rattle.interval_cover.specs.Cover.{eventsOf, eventsLeft, rangesOf, Intervals, Between, stretch, Extending, Extended, Cut, Holding, Sweeping, Swept}
 use Rattle.interval_cover.proofs.Holding.{holding-start, holding-skip, holding-last, holding-none, extended-holding}

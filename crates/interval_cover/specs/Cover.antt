@@ -9,7 +9,7 @@ use Rattle.base.specs.Sort.{sortOf}
 use Rattle.keys.specs.Lists.{below}
 use Rattle.rules.specs.Limits.{itemLimit}
 use Rattle.rules.specs.Finder.{Candidate, keyContig, keyAt, joins, joined, joinAll, coveredFrom, covered}
-use Rattle.candidate_window.specs.Work.{rangeOf, Put, Listing, Listed}
+use Rattle.candidate_ranges.specs.Ranges.{rangeOf, Put, Listing, Listed}
 use Rattle.interval_cover.specs.declared.Held.{Held}
 
 -- the rules' events of these starts and ends

@@ -4,14 +4,14 @@ ghost use mathlib.Core.Path.{_≡_};
 ghost use Prim.Native.Nat.{_≤_, _<_, min};
 ghost use lib.ListN.{length};
 ghost use Rattle.base.specs.Lists.{hit};
-ghost use Rattle.candidate_window.specs.Work.{rangeOf, Room, Listed};
+ghost use Rattle.candidate_ranges.specs.Ranges.{rangeOf, Room, Listed};
 ghost use Rattle.interval_cover.specs.Cover.{Between, stretch, Extending, Extended, Intervals, rangesOf, Sweeping, Swept};
-use candidate_window::candidates::L1Candidate;
-use candidate_window::candidates::joined;
-use candidate_window::candidates::joins;
-use candidate_window::candidates::put;
-use candidate_window::hits::at_of;
-use candidate_window::hits::contig_of;
+use candidate_hits::at_of;
+use candidate_hits::contig_of;
+use candidate_ranges::candidates::L1Candidate;
+use candidate_ranges::candidates::joined;
+use candidate_ranges::candidates::joins;
+use candidate_ranges::candidates::put;
 
 // How many ranges have begun, and the last of them, which is not written yet.
 pub struct Held {

@@ -4,7 +4,7 @@ use mathlib.Core.Path.{refl, sym, ap, _∙_}
 use Prim.Native.Nat.{_≤_}
 use Rattle.interval_cover.proofs.Holding.{extended-nothing, extended-first, extended-join, extended-push}
 use Rattle.rules.specs.Finder.{joins, joined}
-use Rattle.candidate_window.specs.Work.{rangeOf}
+use Rattle.candidate_ranges.specs.Ranges.{rangeOf}
 use Rattle.interval_cover.proofs.extend.Statement.{statement}
 use Rattle.interval_cover.proofs.extend.Tie as tie
 

@@ -7,7 +7,7 @@ use mathlib.Core.List.{List}
 use native.Mathlib.Omega.{arith}
 use denote.Ref.{now}
 use lib.ListN.{length, getD}
-use Rattle.candidate_window.specs.Work.{Room}
+use Rattle.candidate_ranges.specs.Ranges.{Room}
 use Rattle.interval_cover.specs.Cover.{Cut, Sweeping}
 use Rattle.interval_cover.proofs.Cutting.{amid-end, amid-stop, nextKey, next-close}
 use Rattle.interval_cover.proofs.Sweeping.{Added, Closing, sweeping-end, position-extending, position-added, closing-start, closing-step, opening-start, sweeping-again, position-passed}

@@ -6,7 +6,8 @@ use native.Mathlib.Omega.{arith}
 use lib.ListN.{length}
 use lib.Seq.{length-take-le}
 use Rattle.base.proofs.Buffers.{zeroed-whole}
-use Rattle.candidate_window.proofs.Whole.{fronted-within, work-keys, work-room, work-done}
+use Rattle.candidate_hits.proofs.Gathering.{fronted-within}
+use Rattle.candidate_window.proofs.Whole.{work-keys, work-room, work-done}
 use Rattle.candidate_window.proofs.work.work.Statement.{statement}
 use Rattle.candidate_window.proofs.work.work.Tie as tie
 

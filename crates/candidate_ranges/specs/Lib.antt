@@ -1,0 +1,2 @@
+-- Ranges: how ranges are joined, listed and written
+pub mod Ranges
