@@ -4,7 +4,7 @@
 //! operations have it proved, and their border looks at the whole list before the first: that look is part of the time.
 //!
 //! Each row has a pool of different sets and lists. A round runs the whole pool on one side and then on the other, the sides taking turns at
-//! going first; a row shows the median of the rounds' ratios. Before any time is taken the two sides' answers and states are compared.
+//! going first; a row shows the median of the rounds' ratios, and an operation's last row the geometric mean of its rows. Before any time is taken the two sides' answers and states are compared.
 
 #[path = "../original_bits.rs"]
 mod original_bits;
@@ -36,8 +36,25 @@ struct Work {
 
 const NOTHING: u32 = u32::MAX;
 
+/// Instructions of nothing before the original's loops, from the environment of the build: bench/places moves both sides' code by them.
+const NOPS: usize = match option_env!("NOPS") {
+    Some(digits) => number(digits.as_bytes()),
+    None => 0,
+};
+
+const fn number(digits: &[u8]) -> usize {
+    let (mut n, mut i) = (0, 0);
+    while i < digits.len() {
+        n = n * 10 + (digits[i] - b'0') as usize;
+        i += 1;
+    }
+    n
+}
+
 #[inline(never)]
 fn original(op: Operation, w: &mut Work) {
+    // SAFETY: the instructions do nothing.
+    unsafe { std::arch::asm!(".rept {n}", "nop", ".endr", n = const NOPS, options(nomem, nostack, preserves_flags)) };
     match op {
         Operation::Set => {
             for &i in &w.at {
@@ -146,6 +163,10 @@ fn median(mut xs: Vec<f64>) -> f64 {
     xs[xs.len() / 2]
 }
 
+fn geometric_mean(xs: &[f64]) -> f64 {
+    (xs.iter().map(|x| x.ln()).sum::<f64>() / xs.len() as f64).exp()
+}
+
 fn agree(op: Operation, pool: &[Work]) {
     for w in pool {
         let (mut a, mut b) = (copy(w), copy(w));
@@ -165,6 +186,7 @@ fn main() {
         ("prev_set_before", Operation::Prev),
         ("next_set_after", Operation::Next),
     ] {
+        let mut ratios = vec![];
         for len in [2_288usize, 65_536] {
             for sparse in [2u64, 10, 200, 5_000] {
                 let (sets, n) = if op == Operation::Prev || op == Operation::Next { (4, 32_768) } else { (64, 2_048) };
@@ -185,8 +207,10 @@ fn main() {
                     ratio.push(b / a);
                 }
                 let each = 1e9 / (sets * n) as f64;
-                println!("| {name} | {len} | {sparse} | {:.2} | {:.2} | {:.2} |", median(old) * each, median(new) * each, median(ratio));
+                ratios.push(median(ratio));
+                println!("| {name} | {len} | {sparse} | {:.3} | {:.3} | {:.2} |", median(old) * each, median(new) * each, ratios[ratios.len() - 1]);
             }
         }
+        println!("| {name} | all | all | | | {:.2} |", geometric_mean(&ratios));
     }
 }
