@@ -1,10 +1,12 @@
 //! set, clear and the two searches against the original's `SummaryBitSet`, a list of operations to a call on both sides.
 //!
-//! Both sides run one operation after the other, each index read just before it. The original tests the index within each operation; the proved
-//! operations have it proved, and their border looks at the whole list before the first: that look is part of the time.
+//! Both sides run one operation after the other, each index read just before it. The original tests the index within each operation. The proved
+//! operations have it proved by their caller, here without a look at the list: an index has 16 bits, and every set has the 1,024 words that a job
+//! needs at most, whatever the number of coordinates in use.
 //!
 //! Each row has a pool of different sets and lists. A round runs the whole pool on one side and then on the other, the sides taking turns at
-//! going first; a row shows the median of the rounds' ratios, and an operation's last row the geometric mean of its rows. Before any time is taken the two sides' answers and states are compared.
+//! going first; a row shows the median of the rounds' ratios. Before any time is taken the two sides' answers and states
+//! are compared.
 
 #[path = "../original_bits.rs"]
 mod original_bits;
@@ -13,10 +15,10 @@ use original_bits::SummaryBitSet;
 use std::hint::black_box;
 
 extern "C" {
-    fn bits_set(words: *mut u64, nw: usize, summary: *mut u64, ns: usize, at: *const u32, n: usize) -> u32;
-    fn bits_clear(words: *mut u64, nw: usize, summary: *mut u64, ns: usize, at: *const u32, n: usize) -> u32;
-    fn bits_prev(words: *const u64, nw: usize, summary: *const u64, ns: usize, at: *const u32, n: usize, out: *mut u32, no: usize) -> u32;
-    fn bits_next(words: *const u64, nw: usize, summary: *const u64, ns: usize, at: *const u32, n: usize, out: *mut u32, no: usize) -> u32;
+    fn bits_set(words: *mut u64, nw: usize, summary: *mut u64, ns: usize, at: *const u16, n: usize) -> u32;
+    fn bits_clear(words: *mut u64, nw: usize, summary: *mut u64, ns: usize, at: *const u16, n: usize) -> u32;
+    fn bits_prev(words: *const u64, nw: usize, summary: *const u64, ns: usize, at: *const u16, n: usize, out: *mut u32, no: usize) -> u32;
+    fn bits_next(words: *const u64, nw: usize, summary: *const u64, ns: usize, at: *const u16, n: usize, out: *mut u32, no: usize) -> u32;
 }
 
 #[derive(Clone, Copy, PartialEq)]
@@ -30,11 +32,14 @@ enum Operation {
 /// One set with the operations to run on it.
 struct Work {
     set: SummaryBitSet,
-    at: Vec<u32>,
+    at: Vec<u16>,
     out: Vec<u32>,
 }
 
 const NOTHING: u32 = u32::MAX;
+
+/// Coordinates of a job, at most.
+const MOST: usize = 65_536;
 
 /// Instructions of nothing before the original's loops, from the environment of the build: bench/places moves both sides' code by them.
 const NOPS: usize = match option_env!("NOPS") {
@@ -108,13 +113,13 @@ fn random(state: &mut u64) -> u64 {
 /// `len` coordinates of which about one in `sparse` is set, and `n` operations at random coordinates.
 fn work(len: usize, sparse: u64, n: usize, seed: u64) -> Work {
     let mut state = seed;
-    let mut set = SummaryBitSet::new(len);
+    let mut set = SummaryBitSet::new(MOST);
     for i in 0..len {
         if random(&mut state) % sparse == 0 {
             set.set(i);
         }
     }
-    let at = (0..n).map(|_| (random(&mut state) % len as u64) as u32).collect();
+    let at = (0..n).map(|_| (random(&mut state) % len as u64) as u16).collect();
     Work { set, at, out: vec![0; n] }
 }
 
@@ -163,10 +168,6 @@ fn median(mut xs: Vec<f64>) -> f64 {
     xs[xs.len() / 2]
 }
 
-fn geometric_mean(xs: &[f64]) -> f64 {
-    (xs.iter().map(|x| x.ln()).sum::<f64>() / xs.len() as f64).exp()
-}
-
 fn agree(op: Operation, pool: &[Work]) {
     for w in pool {
         let (mut a, mut b) = (copy(w), copy(w));
@@ -186,8 +187,7 @@ fn main() {
         ("prev_set_before", Operation::Prev),
         ("next_set_after", Operation::Next),
     ] {
-        let mut ratios = vec![];
-        for len in [2_288usize, 65_536] {
+        for len in [2_288, MOST] {
             for sparse in [2u64, 10, 200, 5_000] {
                 let (sets, n) = if op == Operation::Prev || op == Operation::Next { (4, 32_768) } else { (64, 2_048) };
                 let pool: Vec<Work> = (0..sets).map(|q| work(len, sparse, n, 1 + q as u64 * 7_919)).collect();
@@ -207,10 +207,8 @@ fn main() {
                     ratio.push(b / a);
                 }
                 let each = 1e9 / (sets * n) as f64;
-                ratios.push(median(ratio));
-                println!("| {name} | {len} | {sparse} | {:.3} | {:.3} | {:.2} |", median(old) * each, median(new) * each, ratios[ratios.len() - 1]);
+                println!("| {name} | {len} | {sparse} | {:.3} | {:.3} | {:.2} |", median(old) * each, median(new) * each, median(ratio));
             }
         }
-        println!("| {name} | all | all | | | {:.2} |", geometric_mean(&ratios));
     }
 }

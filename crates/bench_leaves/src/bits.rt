@@ -1,12 +1,12 @@
 // Lists of operations on a set of bits, a list to a call: a crossing of the C border for each operation would be most of its time.
-// Nothing can be required of C, so each function looks at its arguments, the whole list of indices among them, before it changes anything.
-// It answers 1 where the operations were run, and 0 where something did not fit. (The length of the list as the answer would keep the count
-// of the loop alive: an instruction more for each operation on Arm.)
+// Nothing can be required of C, so each function looks at its arguments before it changes anything. An index has 16 bits and the words are
+// 1,024, as many as a job ever needs, so no index passes their end and none has to be looked at: what is timed are the operations.
+// The answer is 1 where the operations were run, and 0 where something did not fit. (The length of the list as the answer would keep the
+// count of the loop alive: an instruction more for each operation on Arm.)
 ghost use mathlib.Core.Path.{_≡_};
 ghost use mathlib.Core.Bool.{false};
 ghost use Prim.Native.Nat.{ℕ, _+_, _*_, _≤_, _<_, min};
 ghost use lib.ListN.{length, getD};
-ghost use Rattle.base.specs.Lists.{All};
 ghost use Rattle.summary_bits.specs.Summary.{Fits, Summary};
 use base::Coord;
 use summary_bits::Found;
@@ -73,39 +73,23 @@ fn run(words: &mut [u64], summary: &mut [u64], coord: Coord, on: bool)
     }
 }
 
-// Whether an index is above `last`. The whole list is looked at, with no way out before its end: the compiler then takes several at a time.
-fn past(at: &[u32], last: u32) -> bool
-    ensures { λ r. ⌜ (r ≡ false → All (λ i. i ≤ last) (now (at .entry))) ⌝ }
-{
-    let mut found = false;
-    for k in 0..at.len() {
-        if last < at[k] {
-            found = true;
-        }
-    }
-    found
-}
-
 // One operation after the other, each index read just before it.
-fn run_list(words: &mut [u64], summary: &mut [u64], at: &[u32], on: bool)
-    requires { ⌜ Fits (now words) (now summary) × All (λ i. i < length (now words) * 64) (now at) ⌝ }
+fn run_list(words: &mut [u64], summary: &mut [u64], at: &[u16], on: bool)
+    requires { ⌜ Fits (now words) (now summary) × (1024 ≤ length (now words)) ⌝ }
 {
     for k in 0..at.len() {
-        run(words, summary, Coord(at[k]), on);
+        run(words, summary, Coord(at[k] as u32), on);
     }
 }
 
 // Whether the list was run. Where it was not, words and summary are as they were.
-fn run_each(words: &mut [u64], summary: &mut [u64], at: &[u32], on: bool) -> bool
+fn run_each(words: &mut [u64], summary: &mut [u64], at: &[u16], on: bool) -> bool
     ensures { λ r. ⌜ (r ≡ false → (now (words .exit) ≡ now (words .entry)) × (now (summary .exit) ≡ now (summary .entry))) ⌝ }
 {
     if misfit(words, summary) {
         return false;
     }
-    if words.len() == 0 {
-        return false;
-    }
-    if past(at, (words.len() * 64 - 1) as u32) {
+    if words.len() < 1024 {
         return false;
     }
     run_list(words, summary, at, on);
@@ -113,7 +97,7 @@ fn run_each(words: &mut [u64], summary: &mut [u64], at: &[u32], on: bool) -> boo
 }
 
 #[no_mangle]
-pub extern "C" fn bits_set(words: &mut [u64], summary: &mut [u64], at: &[u32]) -> u32 {
+pub extern "C" fn bits_set(words: &mut [u64], summary: &mut [u64], at: &[u16]) -> u32 {
     if run_each(words, summary, at, true) {
         1
     } else {
@@ -122,7 +106,7 @@ pub extern "C" fn bits_set(words: &mut [u64], summary: &mut [u64], at: &[u32]) -
 }
 
 #[no_mangle]
-pub extern "C" fn bits_clear(words: &mut [u64], summary: &mut [u64], at: &[u32]) -> u32 {
+pub extern "C" fn bits_clear(words: &mut [u64], summary: &mut [u64], at: &[u16]) -> u32 {
     if run_each(words, summary, at, false) {
         1
     } else {
@@ -131,24 +115,24 @@ pub extern "C" fn bits_clear(words: &mut [u64], summary: &mut [u64], at: &[u32])
 }
 
 #[no_mangle]
-pub extern "C" fn bits_prev(words: &[u64], summary: &[u64], at: &[u32], out: &mut [u32]) -> u32 {
+pub extern "C" fn bits_prev(words: &[u64], summary: &[u64], at: &[u16], out: &mut [u32]) -> u32 {
     if astray(words, summary) {
         return 0;
     }
     if out.len() < at.len() {
         return 0;
     }
-    if past(at, (words.len() * 64) as u32) {
+    if words.len() < 1024 {
         return 0;
     }
     for k in 0..at.len() {
-        out[k] = told(summary_bits::prev_set_before(words, summary, Coord(at[k])));
+        out[k] = told(summary_bits::prev_set_before(words, summary, Coord(at[k] as u32)));
     }
     1
 }
 
 #[no_mangle]
-pub extern "C" fn bits_next(words: &[u64], summary: &[u64], at: &[u32], out: &mut [u32]) -> u32 {
+pub extern "C" fn bits_next(words: &[u64], summary: &[u64], at: &[u16], out: &mut [u32]) -> u32 {
     if astray(words, summary) {
         return 0;
     }
@@ -156,7 +140,7 @@ pub extern "C" fn bits_next(words: &[u64], summary: &[u64], at: &[u32], out: &mu
         return 0;
     }
     for k in 0..at.len() {
-        out[k] = told(summary_bits::next_set_after(words, summary, Coord(at[k])));
+        out[k] = told(summary_bits::next_set_after(words, summary, Coord(at[k] as u32)));
     }
     1
 }

@@ -1,6 +1,7 @@
 -- `bits_next` runs the list within its bounds: that the summary goes with the words was looked at first.
 use mathlib.Core.Path.{_≡_, refl}
 use Prim.Native.Nat.{_-_, _≤_}
+use native.Mathlib.Omega.{arith}
 use lib.ListN.{length}
 use Rattle.summary_bits.specs.Summary.{Fits, Summary}
 use borrow.Author.Needs.{needs}
@@ -30,6 +31,9 @@ mul-t14 c = search needs
 
 shared-slice-read-t16 : tie.Need-shared-slice-read-t16 Inv-loop μ-loop
 shared-slice-read-t16 c = search needs
+
+cast-t17 : tie.Need-cast-t17 Inv-loop μ-loop
+cast-t17 c = omega (arith, c .shared-slice-known4 .given (c .before .before .loop .k))
 
 next-set-after-requires : tie.Need-next-set-after-requires Inv-loop μ-loop
 next-set-after-requires c κs = search needs
@@ -70,6 +74,7 @@ bits-next-spec =
     loop-holds
     mul-t14
     shared-slice-read-t16
+    cast-t17
     next-set-after-requires
     told-requires
     mul-out

@@ -1,16 +1,15 @@
--- `bits_prev` runs the list within its bounds: that the summary goes with the words, and no index lies past their end, was looked at first.
+-- `bits_prev` runs the list within its bounds: that the summary goes with the words was looked at first, and an index of 16 bits lies below the end of 1,024 words.
 use mathlib.Core.Path.{_≡_, refl}
-use Prim.Native.Nat.{ℕ, _-_, _*_, _≤_, _<_}
+use Prim.Native.Nat.{_-_, _≤_}
 use native.Mathlib.Omega.{arith}
-use lib.ListN.{length, getD}
-use Rattle.base.proofs.Lists.{all-at}
+use lib.ListN.{length}
 use Rattle.summary_bits.specs.Summary.{Fits, Summary}
 use borrow.Author.Needs.{needs}
 use Rattle.bench_leaves.proofs.bits.bits_prev.Statement.{statement}
 use Rattle.bench_leaves.proofs.bits.bits_prev.Tie as tie
 
 abbrev Inv-loop : tie.InvT-loop
-Inv-loop words summary at out₀ k₀ k-end out k = (length out ≡ length out₀) × (length at ≤ length out) × Fits words summary × Summary words summary × (k-end ≡ length at) × ((i : ℕ) → i < length at → getD at i 0 ≤ length words * 64)
+Inv-loop words summary at out₀ k₀ k-end out k = (length out ≡ length out₀) × (length at ≤ length out) × Fits words summary × Summary words summary × (1024 ≤ length words) × (k-end ≡ length at)
 
 abbrev μ-loop : tie.MeasureT-loop
 μ-loop words summary at out₀ k₀ k-end out k = k-end - k
@@ -24,35 +23,28 @@ returns c = search needs
 returns-2 : tie.Need-returns-2 Inv-loop μ-loop
 returns-2 c = search needs
 
-mul-past : tie.Need-mul-past Inv-loop μ-loop
-mul-past c = omega (arith, c .before .before .astray .ensures (c .before .if1 .left))
-
-cast-past : tie.Need-cast-past Inv-loop μ-loop
-cast-past c = let f = c .before .before .astray .ensures (c .before .if1 .left) in omega (arith, f .0, f .1)
-
-past-requires : tie.Need-past-requires Inv-loop μ-loop
-past-requires c κs = search needs
-
 returns-3 : tie.Need-returns-3 Inv-loop μ-loop
 returns-3 c = search needs
 
 loop-holds : tie.Need-loop-holds Inv-loop μ-loop
 loop-holds c =
-    let o = c .before .before .before in
+    let o = c .before .before in
     let s = o .before .astray .ensures (o .if1 .left) in
-    let args = o .before .before .before .before .before .before .args in
-    (refl, search needs, s .0, s .2, refl, all-at (λ i. i ≤ length (args .words .now) * 64) (args .at .now) (c .before .past .ensures (c .if3 .left)))
+    (refl, search needs, s .0, s .2, search needs, refl)
 
-mul-t16 : tie.Need-mul-t16 Inv-loop μ-loop
-mul-t16 c = search needs
+mul-t14 : tie.Need-mul-t14 Inv-loop μ-loop
+mul-t14 c = search needs
 
-shared-slice-read-t18 : tie.Need-shared-slice-read-t18 Inv-loop μ-loop
-shared-slice-read-t18 c = search needs
+shared-slice-read-t16 : tie.Need-shared-slice-read-t16 Inv-loop μ-loop
+shared-slice-read-t16 c = search needs
+
+cast-t17 : tie.Need-cast-t17 Inv-loop μ-loop
+cast-t17 c = omega (arith, c .shared-slice-known4 .given (c .before .before .loop .k))
 
 prev-set-before-requires : tie.Need-prev-set-before-requires Inv-loop μ-loop
 prev-set-before-requires c κs =
     let l = c .before .before .loop in
-    (l .inv .2, l .inv .3, l .inv .5 (l .k) (search needs))
+    (l .inv .2, l .inv .3, omega (arith, l .inv .4, c .shared-slice-known4 .given (l .k)))
 
 told-requires : tie.Need-told-requires Inv-loop μ-loop
 told-requires c κs = search needs
@@ -87,13 +79,11 @@ bits-prev-spec =
     astray-requires
     returns
     returns-2
-    mul-past
-    cast-past
-    past-requires
     returns-3
     loop-holds
-    mul-t16
-    shared-slice-read-t18
+    mul-t14
+    shared-slice-read-t16
+    cast-t17
     prev-set-before-requires
     told-requires
     mul-out
