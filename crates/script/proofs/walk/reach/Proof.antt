@@ -1,4 +1,4 @@
--- `reach` passes the coordinates below the hash: it stops at the first that is not, and so many are below.
+-- `reach` passes four coordinates while all four are below the hash; where fewer are, or fewer than four are left, the rest tells the number.
 use Prim.Native.Nat.{_-_, _≤_}
 use native.Mathlib.Omega.{arith}
 use borrow.Author.Needs.{needs}
@@ -6,7 +6,6 @@ use denote.Ref.{now}
 use lib.ListN.{length}
 use Rattle.rules.specs.Score.{numberOf}
 use Rattle.rules.proofs.Score.{number-most}
-use Rattle.script.proofs.Reaching.{passes, stops}
 use Rattle.script.proofs.walk.reach.Statement.{statement}
 use Rattle.script.proofs.walk.reach.Tie as tie
 
@@ -16,24 +15,20 @@ Inv-loop coords hash from at₀ at = at ≤ numberOf coords hash
 abbrev μ-loop : tie.MeasureT-loop
 μ-loop coords hash from at₀ at = length coords - at
 
--- the entry, from the loop's head
-abbrev st : tie.At-loop Inv-loop μ-loop → tie.Start Inv-loop μ-loop
-st l = l .before
-
 loop-holds : tie.Need-loop-holds Inv-loop μ-loop
-loop-holds c = c .pre .1
+loop-holds c = c .before .pre .1
 
-mul-if1 : tie.Need-mul-if1 Inv-loop μ-loop
-mul-if1 c = search needs
+add-loop : tie.Need-add-loop Inv-loop μ-loop
+add-loop c = let a = c .before .before .args in omega (arith, number-most (now (a .coords)) (a .hash), c .loop .inv)
 
-shared-slice-read-if1 : tie.Need-shared-slice-read-if1 Inv-loop μ-loop
-shared-slice-read-if1 c = search needs
+below-in-four-requires : tie.Need-below-in-four-requires Inv-loop μ-loop
+below-in-four-requires c κs = search needs
+
+add-result : tie.Need-add-result Inv-loop μ-loop
+add-result c = search needs
 
 returns : tie.Need-returns Inv-loop μ-loop
-returns c =
-    let l = c .before .before .before in
-    let a = st l .args in
-    stops (now (a .coords)) (st l .pre .0) (a .hash) (l .loop .at) (c .before .before .loop-test .taken) (c .if1 .taken) (l .loop .inv)
+returns c = omega (arith, c .before .below-in-four .ensures, c .if1 .taken)
 
 add-at : tie.Need-add-at Inv-loop μ-loop
 add-at c = search needs
@@ -42,16 +37,27 @@ loop-less : tie.Need-loop-less Inv-loop μ-loop
 loop-less c = search needs
 
 loop-again : tie.Need-loop-again Inv-loop μ-loop
-loop-again c =
-    let l = c .before .before .before in
-    let a = st l .args in
-    omega (arith, passes (now (a .coords)) (st l .pre .0) (a .hash) (l .loop .at) (c .before .before .loop-test .taken) (c .if1 .left))
+loop-again c = omega (arith, c .before .below-in-four .ensures, c .if1 .left)
+
+reach-rest-requires : tie.Need-reach-rest-requires Inv-loop μ-loop
+reach-rest-requires c κs = search needs
 
 returns-2 : tie.Need-returns-2 Inv-loop μ-loop
-returns-2 c =
-    let l = c .before in
-    let a = st l .args in
-    omega (arith, number-most (now (a .coords)) (a .hash), l .loop .inv, c .loop-test .left)
+returns-2 c = c .reach-rest .ensures
 
 pub reach-spec : {M : Type 1} → statement M
-reach-spec = tie.close (tie.spec Inv-loop μ-loop loop-holds mul-if1 shared-slice-read-if1 returns add-at loop-less loop-again returns-2)
+reach-spec =
+    tie.close
+    (tie.spec
+    Inv-loop
+    μ-loop
+    loop-holds
+    add-loop
+    below-in-four-requires
+    add-result
+    returns
+    add-at
+    loop-less
+    loop-again
+    reach-rest-requires
+    returns-2)
