@@ -1,7 +1,7 @@
 -- `orderOf` is the first place at which the order breaks, for any test of two neighbours; at `ltb` there is none exactly where the list ascends strictly, at
 -- `leb` exactly where it never descends. A loop that passes the list once finds it: what is left gives the answer of the whole. Assumes nothing.
 use Prim.Native.Nat.{ℕ, zero, suc, _+_, _-_, _<_, _≤_}
-use mathlib.Core.Path.{_≡_, refl, sym, _∙_}
+use mathlib.Core.Path.{_≡_, refl, sym, _∙_, subst}
 use mathlib.Core.Logic.{⊎-elim}
 use mathlib.Core.List.{List, [], _∷_}
 use mathlib.Core.Bool.{Bool, true, false}
@@ -135,11 +135,16 @@ module _ {ok : ℕ → ℕ → Bool} {xs : List ℕ} {n p i : ℕ} (c : Checking
       let h : i < length xs = omega arith in
       sym (c .left ∙ rw (drop-cons xs i 0, e))
 
-  pub checking-end : n ≤ i → i ≡ orderOf ok xs
+  -- the same place, named otherwise
+  pub checking-at : (j : ℕ) → i ≡ j → Checking ok xs n p j
+  checking-at j e = subst (λ (k : ℕ). Checking ok xs n p k) e c
+
+  pub checking-end : n ≤ i → n ≡ orderOf ok xs
   unfolding orderFrom
   checking-end l =
       let h : length xs ≤ i = omega arith in
-      sym (c .left ∙ rw (drop-of-length-le xs h))
+      let all : orderOf ok xs ≡ i = c .left ∙ rw (drop-of-length-le xs h) in
+      omega (arith, all, c .upto)
 
 -- The same by numbers: strictly ascending, and never down.
 module _ {xs : List ℕ} {n p i : ℕ} where

@@ -18,7 +18,7 @@ use Rattle.base.proofs.Counting.{count-zero, count-next, count-same, count-none
 use Rattle.rules.specs.Ranks.{either, both, mark, has, size, PivotAt, Slid}
 use Rattle.summary_bits.specs.Bits.{bit, bitAt, withOn}
 use Rattle.summary_bits.specs.Summary.{Fits, Summary}
-use Rattle.summary_bits.proofs.Number.{one-shl, bit-of-zero, bit-or, bit-pow-same, bit-pow-other}
+use Rattle.summary_bits.proofs.Number.{bit-zero, bit-of-zero, bit-or, bit-mod, bit-shl, bit-shl-low, bit-above}
 use Rattle.summary_bits.proofs.Words.{bitAt-zero, no-bits}
 use Rattle.summary_bits.proofs.Stored.{stored-here, stored-elsewhere, stored-length, stored-summary}
 use Rattle.slide_mapper.specs.declared.Slide.{Slide}
@@ -27,40 +27,50 @@ use Rattle.slide_mapper.proofs.State.{mark-at, has-at, counts-length, f
 
 -- ---- one word
 
--- a flag shifted to bit s
-flag-same : (c s : ℕ) → c ≤ 1 → s < 64 → bit (c * 2 ^ s % 2 ^ 64) s ≡ c
-flag-same zero s h l = ap (λ (n : ℕ). bit n s) (let e : zero * 2 ^ s % 2 ^ 64 ≡ 0 = omega (arith, zero-mul (2 ^ s)) in e) ∙ bit-of-zero s
-flag-same (suc zero) s h l = ap (λ (n : ℕ). bit n s) (one-shl s l) ∙ bit-pow-same s
-flag-same (suc (suc c)) s h l = absurd (omega arith)
+-- a number of so many bits moved up by s: below s nothing, from s on its own bits
+shifted-low : (y s b : ℕ) → b < s → s ≤ 64 → bit (y * 2 ^ s % 2 ^ 64) b ≡ 0
+shifted-low y s b l m = bit-mod 64 (y * 2 ^ s) b (omega arith) ∙ bit-shl-low y s b l
 
-flag-other : (c s b : ℕ) → c ≤ 1 → s < 64 → b ≢ s → bit (c * 2 ^ s % 2 ^ 64) b ≡ 0
-flag-other zero s b h l n = ap (λ (m : ℕ). bit m b) (let e : zero * 2 ^ s % 2 ^ 64 ≡ 0 = omega (arith, zero-mul (2 ^ s)) in e) ∙ bit-of-zero b
-flag-other (suc zero) s b h l n = ap (λ (m : ℕ). bit m b) (one-shl s l) ∙ bit-pow-other s b n
-flag-other (suc (suc c)) s b h l n = absurd (omega arith)
+shifted : (y s b : ℕ) → s + b < 64 → bit (y * 2 ^ s % 2 ^ 64) (s + b) ≡ bit y b
+shifted y s b l = bit-mod 64 (y * 2 ^ s) (s + b) l ∙ bit-shl y s b
+
+shifted-out : (y s b : ℕ) → 64 ≤ b → bit (y * 2 ^ s % 2 ^ 64) b ≡ 0
+shifted-out y s b l = bit-above (y * 2 ^ s % 2 ^ 64) 64 b (omega arith) l
 
 pub gathered-none : (cs : List ℕ) (from : ℕ) → Gathered cs from from 0
 gathered-none cs from = record { inside = λ b l. absurd (omega arith); past = λ b l. bit-of-zero b }
 
-pub gathered-more : {cs : List ℕ} {from i x : ℕ} → Gathered cs from i x → from ≤ i → i < from + 64 → getD cs i 0 ≤ 1
-    → Gathered cs from (i + 1) (bitOr x (getD cs i 0 * 2 ^ (i - from) % 2 ^ 64))
-gathered-more {cs} {from} {i} {x} g l m h = record {
+pub gathered-one : (cs : List ℕ) (i j : ℕ) → j ≡ i + 1 → getD cs i 0 ≤ 1 → Gathered cs i j (getD cs i 0)
+gathered-one cs i j e h = record {
+  inside = λ b l.
+      let z : b ≡ 0 = omega arith in
+      omega (arith, h, ap (bit (getD cs i 0)) z, bit-zero (getD cs i 0), ap (λ (n : ℕ). getD cs n 0) (let e : i + b ≡ i = omega arith in e));
+  past = λ b l. bit-above (getD cs i 0) 1 b (omega arith) (omega arith);
+}
+
+-- two stretches that follow each other
+pub gathered-more : {cs : List ℕ} {from i j x y : ℕ} (s : ℕ) → Gathered cs from i x → Gathered cs i j y → i ≡ from + s → i ≤ j → j ≤ from + 64
+    → Gathered cs from j (bitOr x (y * 2 ^ s % 2 ^ 64))
+gathered-more {cs} {from} {i} {j} {x} {y} s g h e l m = record {
   inside = λ b k.
+      ⊎-elim (λ (u : b < s). omega (arith, bit-or x z b, g .inside b (omega arith), shifted-low y s b u (omega arith)))
+      (λ (u : s ≤ b).
+      omega (arith, bit-or x z b, g .past b (omega arith), ap (bit z) (up b u), shifted y s (b - s) (omega arith), h .inside (b - s) (omega arith), ap (λ (n : ℕ). getD cs n 0) (place b u)))
+      (lt-or-ge b s);
+  past = λ b k.
       ⊎-elim
-      (λ (q : b ≡ i - from).
-      subst (λ (n : ℕ). bit (bitOr x y) n ≡ getD cs (from + n) 0) (sym q)
-      (omega (arith, bit-or x y (i - from), g .past (i - from) (omega arith), flag-same c (i - from) h (omega arith), ap (λ (n : ℕ). getD cs n 0) back)))
-      (λ (d : b ≢ i - from). omega (arith, bit-or x y b, g .inside b (omega arith), flag-other c (i - from) b h (omega arith) d)) (eq-or-ne b (i - from));
-  past = λ b k. omega (arith, bit-or x y b, g .past b (omega arith), flag-other c (i - from) b h (omega arith) (omega arith));
+      (λ (u : b < 64). omega (arith, bit-or x z b, g .past b (omega arith), ap (bit z) (up b (omega arith)), shifted y s (b - s) (omega arith), h .past (b - s) (omega arith)))
+      (λ (u : 64 ≤ b). omega (arith, bit-or x z b, g .past b (omega arith), shifted-out y s b u)) (lt-or-ge b 64);
 }
   where
-    c : ℕ
-    c = getD cs i 0
+    z : ℕ
+    z = y * 2 ^ s % 2 ^ 64
 
-    y : ℕ
-    y = c * 2 ^ (i - from) % 2 ^ 64
+    up : (b : ℕ) → s ≤ b → b ≡ s + (b - s)
+    up b u = omega arith
 
-    back : from + (i - from) ≡ i
-    back = omega arith
+    place : (b : ℕ) → s ≤ b → i + (b - s) ≡ from + b
+    place b u = omega arith
 
 -- ---- the words before w hold their flags as bits, and the others are 0
 

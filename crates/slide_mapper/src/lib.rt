@@ -23,18 +23,43 @@ fn least(a: usize, b: usize) -> usize
     if a < b { a } else { b }
 }
 
-// The count words from `from` to `end`, each 0 or 1, as the bits of one word.
+// Four count words from i on, each 0 or 1, as the bits of a number.
+fn four_of(counts: &[u32], i: usize) -> u64
+    requires { ⌜ (i + 4 ≤ length (now counts)) × ((j : ℕ) → getD (now counts) j 0 ≤ 1) ⌝ }
+    ensures { λ r. ⌜ Gathered (now (counts .entry)) i (i + 4) r ⌝ }
+{
+    counts[i] as u64
+        | ((counts[i + 1] as u64) << 1)
+        | ((counts[i + 2] as u64) << 2)
+        | ((counts[i + 3] as u64) << 3)
+}
+
+// The word of the count words from `from` to `end`, of which those before `start` stand in `word`, one to a turn.
+fn gathered_rest(counts: &[u32], from: usize, start: usize, end: usize, word: u64) -> u64
+    requires { ⌜ (from ≤ start) × (start ≤ end) × (end ≤ from + 64) × (end ≤ length (now counts)) × ((j : ℕ) → getD (now counts) j 0 ≤ 1) × Gathered (now counts) from start word ⌝ }
+    ensures { λ r. ⌜ Gathered (now (counts .entry)) from end r ⌝ }
+{
+    let mut all = word;
+    let mut i = start;
+    while i < end {
+        all = all | ((counts[i] as u64) << (i - from));
+        i += 1;
+    }
+    all
+}
+
+// The count words from `from` to `end`, each 0 or 1, as the bits of one word. Four to a turn: a turn costs more than the words it takes.
 fn gathered(counts: &[u32], from: usize, end: usize) -> u64
     requires { ⌜ (from ≤ end) × (end ≤ from + 64) × (end ≤ length (now counts)) × ((j : ℕ) → getD (now counts) j 0 ≤ 1) ⌝ }
     ensures { λ r. ⌜ Gathered (now (counts .entry)) from end r ⌝ }
 {
     let mut word: u64 = 0;
     let mut i = from;
-    while i < end {
-        word = word | ((counts[i] as u64) << (i - from));
-        i += 1;
+    while i + 4 <= end {
+        word = word | (four_of(counts, i) << (i - from));
+        i += 4;
     }
-    word
+    gathered_rest(counts, from, i, end, word)
 }
 
 // The state before the first item: no hash is active, so the union is the query, whose flags stand in the count words. Its bits are stored

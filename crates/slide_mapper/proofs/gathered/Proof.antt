@@ -1,34 +1,27 @@
--- `gathered` puts a count word a turn where its bit stands.
-use mathlib.Core.Path.{_≡_, subst}
-use Prim.Native.Nat.{ℕ, _≤_, _-_}
+-- `gathered` puts four count words a turn where their bits stand, and leaves fewer to `gathered_rest`.
+use Prim.Native.Nat.{_≤_, _-_}
 use native.Mathlib.Omega.{arith}
 use borrow.Author.Needs.{needs}
 use denote.Ref.{now}
-use lib.ListN.{length}
 use Rattle.slide_mapper.specs.State.{Gathered}
 use Rattle.slide_mapper.proofs.First.{gathered-none, gathered-more}
 use Rattle.slide_mapper.proofs.gathered.Statement.{statement}
 use Rattle.slide_mapper.proofs.gathered.Tie as tie
 
 abbrev Inv-loop : tie.InvT-loop
-Inv-loop counts from end word₀ i₀ word i =
-    (from ≤ i) × (i ≤ end) × Gathered counts from i word
+Inv-loop counts from end word₀ i₀ word i = (from ≤ i) × (i ≤ end) × Gathered counts from i word
 
 abbrev μ-loop : tie.MeasureT-loop
-μ-loop counts from end word₀ i₀ word i =
-    end - i
+μ-loop counts from end word₀ i₀ word i = end - i
 
 loop-holds : tie.Need-loop-holds Inv-loop μ-loop
-loop-holds c = (omega arith, omega arith, gathered-none (now (c .args .counts)) (c .args .from))
+loop-holds c = (omega arith, omega arith, gathered-none (now (c .before .args .counts)) (c .before .args .from))
 
-mul-word : tie.Need-mul-word Inv-loop μ-loop
-mul-word c = search needs
+add-loop : tie.Need-add-loop Inv-loop μ-loop
+add-loop c = search needs
 
-shared-slice-read-word : tie.Need-shared-slice-read-word Inv-loop μ-loop
-shared-slice-read-word c = search needs
-
-cast-word : tie.Need-cast-word Inv-loop μ-loop
-cast-word c = omega (arith, c .before .before .before .pre .3 (c .before .before .loop .i))
+four-of-requires : tie.Need-four-of-requires Inv-loop μ-loop
+four-of-requires c κs = search needs
 
 sub-word : tie.Need-sub-word Inv-loop μ-loop
 sub-word c = search needs
@@ -45,13 +38,13 @@ loop-less c = search needs
 loop-again : tie.Need-loop-again Inv-loop μ-loop
 loop-again c =
     let l = c .before .before in
-    (omega arith, omega arith, gathered-more (l .loop .inv .2) (l .loop .inv .0) (omega arith) (l .before .pre .3 (l .loop .i)))
+    (omega arith, omega arith, gathered-more (l .loop .i - l .before .before .args .from) (l .loop .inv .2) (c .four-of .ensures) (omega arith) (omega arith) (omega arith))
+
+gathered-rest-requires : tie.Need-gathered-rest-requires Inv-loop μ-loop
+gathered-rest-requires c κs = search needs
 
 returns : tie.Need-returns Inv-loop μ-loop
-returns c =
-    let l = c .before in
-    let e : l .loop .i ≡ l .before .args .end = omega (arith, c .loop-test .left, l .loop .inv .1) in
-    subst (λ (n : ℕ). Gathered (now (l .before .args .counts)) (l .before .args .from) n (l .loop .word)) e (l .loop .inv .2)
+returns c = c .gathered-rest .ensures
 
 pub gathered-spec : {M : Type 1} → statement M
 gathered-spec =
@@ -60,12 +53,12 @@ gathered-spec =
     Inv-loop
     μ-loop
     loop-holds
-    mul-word
-    shared-slice-read-word
-    cast-word
+    add-loop
+    four-of-requires
     sub-word
     shl-word
     add-i
     loop-less
     loop-again
+    gathered-rest-requires
     returns)
