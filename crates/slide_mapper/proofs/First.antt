@@ -27,7 +27,7 @@ use Rattle.slide_mapper.proofs.State.{mark-at, has-at, counts-length, f
 
 -- ---- one word
 
--- a number of so many bits moved up by s: below s nothing, from s on its own bits
+-- a number moved up by s, within a word: below s nothing, from s on its own bits, past the word nothing
 shifted-low : (y s b : ℕ) → b < s → s ≤ 64 → bit (y * 2 ^ s % 2 ^ 64) b ≡ 0
 shifted-low y s b l m = bit-mod 64 (y * 2 ^ s) b (omega arith) ∙ bit-shl-low y s b l
 
