@@ -1,8 +1,9 @@
 //! set, clear and the two searches against the original's `SummaryBitSet`, a list of operations to a call on both sides.
 //!
 //! Both sides run one operation after the other, each index read just before it. The original tests the index within each operation. The proved
-//! operations have it proved by their caller, here without a look at the list: an index has 16 bits, and every set has the 1,024 words that a job
-//! needs at most, whatever the number of coordinates in use.
+//! operations have it proved by their caller, here without a look at the list: an index has 16 bits, and every set has the 1,024 words that a
+//! script needs at most, whatever the number of coordinates in use. In the rows that say `tested` an index has 32 bits, and the proved side's
+//! border tests it before each operation too.
 //!
 //! Each row has a pool of different sets and lists. A round runs the whole pool on one side and then on the other, the sides taking turns at
 //! going first; a row shows the median of the rounds' ratios. Before any time is taken the two sides' answers and states
@@ -17,6 +18,8 @@ use std::hint::black_box;
 extern "C" {
     fn bits_set(words: *mut u64, nw: usize, summary: *mut u64, ns: usize, at: *const u16, n: usize) -> u32;
     fn bits_clear(words: *mut u64, nw: usize, summary: *mut u64, ns: usize, at: *const u16, n: usize) -> u32;
+    fn bits_set_tested(words: *mut u64, nw: usize, summary: *mut u64, ns: usize, at: *const u32, n: usize) -> u32;
+    fn bits_clear_tested(words: *mut u64, nw: usize, summary: *mut u64, ns: usize, at: *const u32, n: usize) -> u32;
     fn bits_prev(words: *const u64, nw: usize, summary: *const u64, ns: usize, at: *const u16, n: usize, out: *mut u32, no: usize) -> u32;
     fn bits_next(words: *const u64, nw: usize, summary: *const u64, ns: usize, at: *const u16, n: usize, out: *mut u32, no: usize) -> u32;
 }
@@ -25,6 +28,8 @@ extern "C" {
 enum Operation {
     Set,
     Clear,
+    SetTested,
+    ClearTested,
     Prev,
     Next,
 }
@@ -33,12 +38,13 @@ enum Operation {
 struct Work {
     set: SummaryBitSet,
     at: Vec<u16>,
+    wide: Vec<u32>,
     out: Vec<u32>,
 }
 
 const NOTHING: u32 = u32::MAX;
 
-/// Coordinates of a job, at most.
+/// Coordinates of a script, at most.
 const MOST: usize = 65_536;
 
 /// Instructions of nothing before the original's loops, from the environment of the build: bench/places moves both sides' code by them.
@@ -71,6 +77,16 @@ fn original(op: Operation, w: &mut Work) {
                 w.set.clear(i as usize);
             }
         }
+        Operation::SetTested => {
+            for &i in &w.wide {
+                w.set.set(i as usize);
+            }
+        }
+        Operation::ClearTested => {
+            for &i in &w.wide {
+                w.set.clear(i as usize);
+            }
+        }
         Operation::Prev => {
             for (&i, o) in w.at.iter().zip(w.out.iter_mut()) {
                 *o = w.set.prev_set_before(i as usize).map_or(NOTHING, |j| j as u32);
@@ -88,13 +104,15 @@ fn original(op: Operation, w: &mut Work) {
 fn proved(op: Operation, w: &mut Work) {
     let (words, nw) = (w.set.words.as_mut_ptr(), w.set.words.len());
     let (summary, ns) = (w.set.summary.as_mut_ptr(), w.set.summary.len());
-    let (at, n) = (w.at.as_ptr(), w.at.len());
+    let (at, wide, n) = (w.at.as_ptr(), w.wide.as_ptr(), w.at.len());
     let (out, no) = (w.out.as_mut_ptr(), w.out.len());
-    // SAFETY: each pointer goes with its slice's own length, and the four slices do not overlap.
+    // SAFETY: each pointer goes with its slice's own length (`wide` is as long as `at`), and the slices do not overlap.
     let run = unsafe {
         match op {
             Operation::Set => bits_set(words, nw, summary, ns, at, n),
             Operation::Clear => bits_clear(words, nw, summary, ns, at, n),
+            Operation::SetTested => bits_set_tested(words, nw, summary, ns, wide, n),
+            Operation::ClearTested => bits_clear_tested(words, nw, summary, ns, wide, n),
             Operation::Prev => bits_prev(words, nw, summary, ns, at, n, out, no),
             Operation::Next => bits_next(words, nw, summary, ns, at, n, out, no),
         }
@@ -119,14 +137,16 @@ fn work(len: usize, sparse: u64, n: usize, seed: u64) -> Work {
             set.set(i);
         }
     }
-    let at = (0..n).map(|_| (random(&mut state) % len as u64) as u16).collect();
-    Work { set, at, out: vec![0; n] }
+    let at: Vec<u16> = (0..n).map(|_| (random(&mut state) % len as u64) as u16).collect();
+    let wide = at.iter().map(|&i| u32::from(i)).collect();
+    Work { set, at, wide, out: vec![0; n] }
 }
 
 fn copy(w: &Work) -> Work {
     Work {
         set: SummaryBitSet { words: w.set.words.clone(), summary: w.set.summary.clone() },
         at: w.at.clone(),
+        wide: w.wide.clone(),
         out: w.out.clone(),
     }
 }
@@ -184,6 +204,8 @@ fn main() {
     for (name, op) in [
         ("set", Operation::Set),
         ("clear", Operation::Clear),
+        ("set, tested", Operation::SetTested),
+        ("clear, tested", Operation::ClearTested),
         ("prev_set_before", Operation::Prev),
         ("next_set_after", Operation::Next),
     ] {

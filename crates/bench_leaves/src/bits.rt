@@ -1,6 +1,7 @@
 // Lists of operations on a set of bits, a list to a call: a crossing of the C border for each operation would be most of its time.
 // Nothing can be required of C, so each function looks at its arguments before it changes anything. An index has 16 bits and the words are
-// 1,024, as many as a job ever needs, so no index passes their end and none has to be looked at: what is timed are the operations.
+// 1,024, as many as a script ever needs, so no index passes their end and none has to be looked at: what is timed are the operations. (The
+// `tested` ones take indices of 32 bits.)
 // The answer is 1 where the operations were run, and 0 where something did not fit. (The length of the list as the answer would keep the
 // count of the loop alive: an instruction more for each operation on Arm.)
 ghost use mathlib.Core.Path.{_≡_};
@@ -112,6 +113,44 @@ pub extern "C" fn bits_clear(words: &mut [u64], summary: &mut [u64], at: &[u16])
     } else {
         0
     }
+}
+
+// Sets or clears one bit where there is one: an index past the end is passed over.
+fn run_inside(words: &mut [u64], summary: &mut [u64], i: u32, on: bool)
+    requires { ⌜ Fits (now words) (now summary) ⌝ }
+    ensures { λ _. ⌜ (length (now (words .exit)) ≡ length (now (words .entry))) × (length (now (summary .exit)) ≡ length (now (summary .entry))) ⌝ }
+{
+    if ((i / 64) as usize) < words.len() {
+        run(words, summary, Coord(i), on);
+    }
+}
+
+// As `run_list`, for indices of any size: each is tested just before its operation, as in the original.
+fn run_tested(words: &mut [u64], summary: &mut [u64], at: &[u32], on: bool)
+    requires { ⌜ Fits (now words) (now summary) ⌝ }
+{
+    for k in 0..at.len() {
+        run_inside(words, summary, at[k], on);
+    }
+}
+
+// 1 where the sizes fit each other and the list was run, else 0.
+fn told_tested(words: &mut [u64], summary: &mut [u64], at: &[u32], on: bool) -> u32 {
+    if misfit(words, summary) {
+        return 0;
+    }
+    run_tested(words, summary, at, on);
+    1
+}
+
+#[no_mangle]
+pub extern "C" fn bits_set_tested(words: &mut [u64], summary: &mut [u64], at: &[u32]) -> u32 {
+    told_tested(words, summary, at, true)
+}
+
+#[no_mangle]
+pub extern "C" fn bits_clear_tested(words: &mut [u64], summary: &mut [u64], at: &[u32]) -> u32 {
+    told_tested(words, summary, at, false)
 }
 
 #[no_mangle]
