@@ -61,7 +61,7 @@ pub member-times : (h : ℕ) (xs : List ℕ) → member h xs ≡ ltb 0 (times h 
 unfolding member times
 member-times h [] = refl
 member-times h (x ∷ xs) =
-    ⊎_elim (λ (e : h ≡ x). rw (e, eq-eqb x x refl, hit_same x) (sym (lt-ltb 0 (1 + times x xs) (omega arith))))
+    ⊎_elim (λ (e : h ≡ x). rw (← e, eq-eqb h h refl, hit_same h) (sym (lt-ltb 0 (1 + times h xs) (omega arith))))
     (λ (n : h ≢ x). rw (ne_eqb h x n, hit_other h x n, zero-add) (member-times h xs)) (eq_or_ne h x)
 
 -- sorting keeps the members
@@ -314,7 +314,10 @@ pub take_number : (cs : List ℕ) → StrictAsc cs → (h : ℕ) → member h cs
 unfolding member filter pick
 take_number [] r h m = absurd (false≢true m)
 take_number (c ∷ cs) r h m =
-    ⊎_elim (λ (e : h ≡ c). rw (e, number_first c cs r, le-leb c c (omega arith), filter_none c cs r.0))
+    ⊎_elim
+    (λ (e : h ≡ c).
+    subst (λ (k : ℕ). take (number_of (c ∷ cs) k + 1) (c ∷ cs) ≡ filter (λ x. leb x k) (c ∷ cs)) (sym e)
+    (rw (number_first c cs r, le-leb c c (omega arith), filter_none c cs r.0)))
     (λ l.
     rw (number_later c h cs l.0, suc-add (number_of cs h) 1, le-leb c h (omega (arith, l.0)))
     (ap (λ (zs : List ℕ). c ∷ zs) (take_number cs r.1 h l.1))) (first_or_later c cs r h m)

@@ -49,10 +49,10 @@ unfolding best_from
 from_append b [] ys = refl
 from_append b (x ∷ xs) ys = from_append (better b x) xs ys
 
-run_from : (b : Best) {s f l : ℕ} {zs : List Scored} → Run s f l zs → best_from b zs ≡ better b (scored s f l)
+run_from : {s : ℕ} (b : Best) {f l : ℕ} {zs : List Scored} → Run s f l zs → best_from b zs ≡ better b (scored s f l)
 unfolding best_from
 run_from b (one f l) = refl
-run_from b {s} (more f m {g} {l} r) = run_from (better b (scored s f m)) r ∙ better_again b s f m g l
+run_from {s} b (more f m {g} {l} r) = run_from (better b (scored s f m)) r ∙ better_again b s f m g l
 
 run_best : {s f l : ℕ} {zs : List Scored} → Run s f l zs → (ys : List Scored) → best (zs ++ ys) ≡ best_from (begun (scored s f l)) ys
 unfolding best best_from
