@@ -1,13 +1,13 @@
-//! Links the proved library, which `rt staticlib exports` has made in the repository's target folder.
+//! Links the proved library, which `rt lib` has made in crates/exports.
 use std::path::Path;
 
 fn main() {
-    let folder = Path::new(env!("CARGO_MANIFEST_DIR")).join("../target/staticlib");
+    let folder = Path::new(env!("CARGO_MANIFEST_DIR")).join("../crates/exports/out");
     let archive = folder.join("libexports.a");
     println!("cargo:rerun-if-changed={}", archive.display());
     if !archive.is_file() {
         eprintln!(
-            "{} is missing: run `rt staticlib exports` in the repository first",
+            "{} is missing: run `rt lib` in crates/exports first",
             archive.display()
         );
         std::process::exit(1);

@@ -8,7 +8,7 @@
 //! leaves in the slices, is proved from definitions in the repository's `crates/rules/specs`; the wrappers here are not
 //! proved, they pass addresses and lengths.
 //!
-//! Build the archive first: `rt staticlib exports` in the repository.
+//! Build the archive first: `rt lib` in crates/exports.
 
 mod ffi;
 mod finder;

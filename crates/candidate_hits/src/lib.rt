@@ -1,4 +1,6 @@
 // The kept hits as keys: contig × 2^32 + position, so that keys ascend by contig, then by position.
+#![tactic(auto)]
+
 ghost use Rattle.std.specs.Prelude.{◌≡◌, true, ◌<◌, drop};
 ghost use Rattle.std.proofs.Math.Seq.{paste};
 ghost use Rattle.base.specs.Lists.{All};

@@ -1,5 +1,7 @@
 // The interval finder: of a fragment's interval hits in the reference, the ranges that enough of them cover. The outward call stands here; below
 // it are the checks, which touch no list, and the work over keys of exactly the needed number.
+#![tactic(auto)]
+
 mod checks;
 mod work;
 

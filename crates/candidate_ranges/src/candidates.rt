@@ -4,7 +4,7 @@ ghost use Rattle.candidate_ranges.specs.Ranges.{range_of, Put};
 ghost use Rattle.rules.specs.Finder as finder;
 
 // A range of positions in a contig, both ends included.
-#[derive(Drop)]
+#[derive(Clone, Copy)]
 pub struct L1Candidate {
     pub contig: u32,
     pub start: u32,

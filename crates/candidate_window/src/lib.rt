@@ -1,5 +1,7 @@
 // The minimizer finder: of a fragment's hits in the reference, the ranges where the fragment may lie. The outward call stands here; below it
 // are the checks, which touch no list, and the work over keys of exactly the needed number.
+#![tactic(auto)]
+
 pub mod checks;
 pub mod work;
 

@@ -3,7 +3,7 @@ ghost use Rattle.candidate_window.specs.Given.{finder_of};
 ghost use Rattle.candidate_window.specs.Work.{Accepted, Worked};
 
 // How many ranges were listed, and the seed hits: how many hits were kept.
-#[derive(Drop)]
+#[derive(Clone, Copy)]
 pub struct Found {
     pub count: u32,
     pub hits: u32,

@@ -1,5 +1,7 @@
 // The coordinates of a call (the original's `build_indexed_minimizers`): all query and local reference hashes in ascending order, each
 // once. What a sweep wants of them is each hash's number among them, and which are in the query; the coordinates themselves are not kept.
+#![tactic(auto)]
+
 mod pack;
 mod search;
 

@@ -9,7 +9,7 @@ use base::FinderAnswer;
 
 // Number 0: done, at place 0, with the count of candidates and the seed hits. Any other number: refused at that place, and both are 0.
 #[repr(C)]
-#[derive(Drop)]
+#[derive(Clone, Copy)]
 pub struct FinderOut {
     pub number: u32,
     pub place: u32,

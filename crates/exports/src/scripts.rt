@@ -9,7 +9,7 @@ use base::ScriptAnswer;
 
 // Number 0: done, at place 0, with the pair after the last step. Any other number: refused at that place, and the pair is 0, 0.
 #[repr(C)]
-#[derive(Drop)]
+#[derive(Clone, Copy)]
 pub struct ScriptOut {
     pub number: u32,
     pub place: u32,

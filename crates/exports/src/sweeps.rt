@@ -11,7 +11,7 @@ use base::{Range, Settings, SweepAnswer};
 // Number 0: done, at place 0, with the statistics; found is 1 where there is a place, else 0 with all that a place has. Any other number:
 // refused at that place, and all else is 0.
 #[repr(C)]
-#[derive(Drop)]
+#[derive(Clone, Copy)]
 pub struct SweepOut {
     pub number: u32,
     pub place: u32,

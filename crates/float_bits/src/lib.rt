@@ -1,4 +1,6 @@
 // The float of a bit pattern. The language keeps one NaN, which is the float of every pattern of a NaN.
+#![tactic(auto)]
+
 ghost use Rattle.std.specs.Prelude.{◌≡◌};
 ghost use Rattle.std.specs.Float.{binary64};
 ghost use Rattle.std.specs.Float.Ieee.{of_bits};

@@ -1,5 +1,7 @@
 // The positions that enough intervals cover, from the keys of their starts and of their ends, each list in order. Where i starts and j ends
 // are passed, i - j intervals are active; each contig begins and ends with none, so no count is set back.
+#![tactic(auto)]
+
 ghost use Rattle.std.specs.Prelude.{◌≡◌, ◌≤◌, ◌<◌, min, length};
 ghost use Rattle.base.specs.Lists.{hit};
 ghost use Rattle.candidate_ranges.specs.Ranges.{range_of, Room, Listed};
@@ -9,14 +11,14 @@ use candidate_hits::{at_of, contig_of};
 use candidate_ranges::candidates::{L1Candidate, joined, joins, put};
 
 // How many ranges have begun, and the last of them, which is not written yet.
-#[derive(Drop)]
+#[derive(Clone, Copy)]
 pub struct Held {
     pub count: usize,
     pub range: L1Candidate,
 }
 
 // How far the sweep is once all starts are passed: what it holds, the last key, and how many ends are passed.
-#[derive(Drop)]
+#[derive(Clone, Copy)]
 pub struct Passed {
     pub held: Held,
     pub key: u64,

@@ -1,4 +1,6 @@
 // The kept intervals as two lists of keys, those of their starts and those of their ends. Empty intervals are passed over.
+#![tactic(auto)]
+
 ghost use Rattle.interval_hits.specs.Hits.{Grouped, GroupAt, PutKeys, Filled, Sorted, Gathered, Front};
 
 use buckets::halves::key_of;
@@ -6,7 +8,7 @@ use candidate_hits::none_dropped;
 use paired_keys::sort_paired;
 
 // How many intervals have their keys at the front of the two lists, and how many hits were kept.
-#[derive(Drop)]
+#[derive(Clone, Copy)]
 pub struct Kept {
     pub intervals: usize,
     pub hits: usize,

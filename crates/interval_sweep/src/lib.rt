@@ -1,5 +1,7 @@
 // The interval sweep (the original's `do_l2_mapping_minmer_intervals`): the place in a range that shares the most hashes with the query. The
 // outward call stands here; below it are the checks, which touch no buffer, and the work, which starts and leaves its buffers cleared.
+#![tactic(auto)]
+
 mod answer;
 mod checks;
 

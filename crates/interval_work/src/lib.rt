@@ -1,5 +1,7 @@
 // One range of an interval sweep that passed its checks: which intervals may be taken, their coordinates, their events, and the best of the
 // spans between these. The work lists are zero before it and behind it; the place is made from its best elsewhere.
+#![tactic(auto)]
+
 ghost use Rattle.std.specs.Prelude.{◌≡◌, ◌+◌, ◌-◌, ◌≤◌, length, take};
 ghost use Rattle.base.specs.Lists.{Asc};
 ghost use Rattle.keys.specs.Lists.{below};
@@ -12,7 +14,7 @@ ghost use Rattle.interval_work.specs.Work.{Begin, Given, Tells, Rooms, Numbers, 
 use base::{Base, Best, Range, Settings};
 
 // The first interval that may be taken, and the one past the last.
-#[derive(Drop)]
+#[derive(Clone, Copy)]
 pub struct Bounds {
     pub from: usize,
     pub to: usize,
@@ -46,7 +48,7 @@ pub fn local(starts: &[u32], settings: Settings, range: Range) -> Bounds
 }
 
 // The best of the spans, how many coordinates there are, and how many intervals were taken; where that is 0 the rest means nothing.
-#[derive(Drop)]
+#[derive(Clone, Copy)]
 pub struct Swept {
     pub best: Best,
     pub coords: u32,

@@ -12,7 +12,7 @@ use base::{Range, Settings};
 use job_fields::judge::Head;
 
 // What 03 asks: the window is the minimizer sweep's alone.
-#[derive(Drop)]
+#[derive(Clone, Copy)]
 pub struct Asked {
     pub settings: Settings,
     pub window: u32,
@@ -20,7 +20,7 @@ pub struct Asked {
 }
 
 // What a job tells beside the lists, and how much of each list is the job's.
-#[derive(Drop)]
+#[derive(Clone, Copy)]
 pub struct Decoded {
     pub mode: u8,
     pub asked: Asked,
@@ -31,14 +31,14 @@ pub struct Decoded {
 }
 
 // Where the next unit is looked for: at `at` in the data of a field, whose end is where the next field begins.
-#[derive(Drop)]
+#[derive(Clone, Copy)]
 pub struct Cursor {
     pub at: usize,
     pub end: usize,
 }
 
 // A unit's offset with the cursor behind it, or that there is none.
-#[derive(Drop)]
+#[derive(Clone, Copy)]
 pub enum Piece {
     At(usize, Cursor),
     NoMore,

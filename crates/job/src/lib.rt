@@ -1,5 +1,7 @@
 // Reads a job: fields of tag, length and data, in place. The first pass, over `job_fields`' table, judges the whole file and writes nothing; the second fills the lists that
 // it is lent. So a refusal leaves every list as it was.
+#![tactic(auto)]
+
 pub mod fill;
 
 ghost use Rattle.job.specs.Read.{lists_of, ReadPromise};
@@ -8,7 +10,7 @@ use base::{Refusal, Verdict};
 use fill::Decoded;
 
 // The answer of a reading: refused, with the byte offset, or what the job tells.
-#[derive(Drop)]
+#[derive(Clone, Copy)]
 pub enum Answer {
     Refused(Refusal),
     Read(Decoded),

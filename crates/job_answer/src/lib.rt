@@ -1,5 +1,7 @@
 // The answer of a job that was read: the sweep of its mode with its refusals, over the fronts of the decoded lists. The work lists are local
 // arrays of the program's limits, so that none is ever too short.
+#![tactic(auto)]
+
 ghost use Rattle.std.specs.Prelude.{◌≡◌, ◌≤◌, length};
 ghost use Rattle.rules.specs.Limits.{job_query_limit, job_item_limit};
 ghost use Rattle.job_answer.specs.Mapped.{points_of, spans_of, minimizer_done, interval_done, Rooms, answer_in};

@@ -12,14 +12,14 @@ use crate::table::{Found, Row};
 use base::{Refusal, Verdict};
 
 // The field at an offset: cut, or its tag and the length of its data, which stands whole behind the three bytes of the header.
-#[derive(Drop)]
+#[derive(Clone, Copy)]
 pub enum Head {
     Cut,
     Field(u8, usize),
 }
 
 // What the fields so far tell the next: the last tag, the mode (0 as long as none was read), and how many bytes the fields with that tag have, joined.
-#[derive(Drop)]
+#[derive(Clone, Copy)]
 pub struct Seen {
     pub before: u8,
     pub mode: u8,
@@ -27,7 +27,7 @@ pub struct Seen {
 }
 
 // A step over one field: its fault, or the offset of the next field, or that it was the last.
-#[derive(Drop)]
+#[derive(Clone, Copy)]
 pub enum Step {
     Fault(u8),
     Next(Seen, usize),

@@ -6,7 +6,7 @@ ghost use Rattle.job_fields.specs.Table.{rule_of, no_rule, rows_of, rows_with, b
 
 // A row: the tag; the size of a unit in minimizer mode, and of a span in interval mode; whether the field is one unit exactly, or any number of whole units; whether it
 // repeats, joined; whether it must stand; how many units the program takes, joined.
-#[derive(Drop)]
+#[derive(Clone, Copy)]
 pub struct Row {
     pub tag: u8,
     pub unit: u16,
@@ -93,7 +93,7 @@ pub const TABLE: [Row; 8] = [
 ];
 
 // The row of a tag, if the table has one.
-#[derive(Drop)]
+#[derive(Clone, Copy)]
 pub enum Found {
     Known(Row),
     Unknown,

@@ -1,4 +1,6 @@
 // The printed lines, written into an array at an offset: words, decimal numbers and hex digits, from the rules' lines. Nothing else of the array is touched.
+#![tactic(auto)]
+
 ghost use Rattle.std.specs.Prelude.{◌≡◌, [], ◌∷◌, ◌++◌, ◌+◌, ◌≤◌, ◌<◌, length, get_or};
 ghost use Rattle.rules.specs.Text.{text};
 ghost use Rattle.rules.specs.Lines.{decimal, hex_digit, hex, line, counts_line, refused_line, mapped_line};

@@ -1,5 +1,7 @@
 // The sweep over its stops, for local items that are told by their positions and their coordinate numbers: a stop's items are active in the
 // mapper, whose shared count is their score.
+#![tactic(auto)]
+
 ghost use Rattle.std.specs.Prelude.{◌≡◌, ◌+◌, ◌-◌, ◌^◌, ◌≤◌, ◌<◌, length, get_or};
 ghost use Rattle.rules.specs.Minimizer.{goes_on, next_stop};
 ghost use Rattle.rules.specs.Sweep as rules;
@@ -10,7 +12,7 @@ use base::{Base, Best, Coord};
 use slide_mapper::Slide;
 
 // The first item b, the end item e (not included), the start p.
-#[derive(Drop)]
+#[derive(Clone, Copy)]
 pub struct Stop {
     pub b: usize,
     pub e: usize,
@@ -18,7 +20,7 @@ pub struct Stop {
 }
 
 // The best of the stops, and how many there were.
-#[derive(Drop)]
+#[derive(Clone, Copy)]
 pub struct Swept {
     pub best: Best,
     pub windows: u64,

@@ -1,5 +1,7 @@
 // The minimizer sweep (the original's `do_l2_mapping_bitset_exact`). The outward call stands here; below it are the checks, which touch no
 // buffer, and the answer for one range, over work lists that are clear before it and behind it.
+#![tactic(auto)]
+
 mod checks;
 
 ghost use Rattle.std.specs.Prelude.{◌≡◌, ◌+◌, eqb, length};

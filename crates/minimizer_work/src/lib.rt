@@ -1,5 +1,7 @@
 // One range of a minimizer sweep that passed its checks: which items are local, and the best of their stops. The work lists are clear before
 // it and behind it, so that it may be asked again for another range behind the same checks; the place is made from its best elsewhere.
+#![tactic(auto)]
+
 ghost use Rattle.std.specs.Prelude.{◌≡◌, ◌+◌, ◌-◌, ◌^◌, ◌<◌, length};
 ghost use Rattle.base.specs.Lists.{Asc};
 ghost use Rattle.keys.specs.Lists.{below};
@@ -11,7 +13,7 @@ ghost use Rattle.minimizer_work.specs.Work.{Asks, Answers, Task, Done};
 use base::{Best, Range, Settings, Stats};
 
 // The first local item, and the one past the last.
-#[derive(Drop)]
+#[derive(Clone, Copy)]
 pub struct Bounds {
     pub from: usize,
     pub to: usize,
@@ -54,7 +56,7 @@ pub fn windows_per_start(settings: Settings, window: u32) -> u64
 }
 
 // The best of all stops, and what was counted.
-#[derive(Drop)]
+#[derive(Clone, Copy)]
 pub struct Found {
     pub best: Best,
     pub stats: Stats,

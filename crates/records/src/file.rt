@@ -1,6 +1,8 @@
 // Records read from a vectors file.
 ghost use Rattle.std.specs.Prelude.{◌<◌};
 
+use std::io::Read;
+
 // No record has more words than this.
 pub const LONGEST: usize = 8256;
 
@@ -51,7 +53,7 @@ fn decode(bytes: &[u8], out: &mut [u64], n: usize) -> bool {
 }
 
 // Reads n words through `bytes` into the entries from 1 on; answers false where the file ends before.
-fn fetch(fd: i32, bytes: &mut [u8], out: &mut [u64], n: usize) -> bool {
+fn fetch<R: Read>(reader: &mut R, bytes: &mut [u8], out: &mut [u64], n: usize) -> bool {
     if LONGEST < n {
         return false;
     }
@@ -59,22 +61,21 @@ fn fetch(fd: i32, bytes: &mut [u8], out: &mut [u64], n: usize) -> bool {
     if bytes.len() < want {
         return false;
     }
-    let got = io::read_full(fd, &mut bytes[0..want]);
-    if got != want {
-        return false;
+    match reader.read_exact(&mut bytes[0..want]) {
+        Ok(()) => decode(bytes, out, n),
+        Err(_) => false,
     }
-    decode(bytes, out, n)
 }
 
-pub fn read_words(fd: i32, out: &mut [u64], n: usize) -> bool {
+pub fn read_words<R: Read>(reader: &mut R, out: &mut [u64], n: usize) -> bool {
     let mut bytes = [0u8; 66048];
-    fetch(fd, &mut bytes, out, n)
+    fetch(reader, &mut bytes, out, n)
 }
 
 // Reads the next record and answers its length in words, 0 where there is none.
-pub fn next(fd: i32, record: &mut [u64]) -> usize {
+pub fn next<R: Read>(reader: &mut R, record: &mut [u64]) -> usize {
     let mut head = [0u64; 2];
-    if !read_words(fd, &mut head, 1) {
+    if !read_words(reader, &mut head, 1) {
         return 0;
     }
     let n = head[1] as usize;
@@ -84,7 +85,7 @@ pub fn next(fd: i32, record: &mut [u64]) -> usize {
     if record.len() < n {
         return 0;
     }
-    if !read_words(fd, record, n - 1) {
+    if !read_words(reader, record, n - 1) {
         return 0;
     }
     n

@@ -1,6 +1,11 @@
 // Replays the stored vectors through the outward calls and the stored jobs through `run`, and prints for each file how many records ran and how many failed.
-use libc::STDOUT_FILENO;
+#![tactic(auto)]
+
 use records::file;
+use std::fs::File;
+use std::io;
+use std::io::Read;
+use std::rt::Files;
 
 // Whether the call that a file is about does all that the record says. Files go by their numbers in oracle/README.md, "Stored vectors".
 fn right(number: u8, record: &[u64]) -> bool {
@@ -16,9 +21,9 @@ fn right(number: u8, record: &[u64]) -> bool {
 }
 
 // Replays the next record. Answers 0 where it is right, 1 where it failed or is not there.
-fn one(number: u8, fd: i32) -> u64 {
+fn one<R: Read>(number: u8, reader: &mut R) -> u64 {
     let mut record = [0u64; file::LONGEST];
-    let n = file::next(fd, &mut record);
+    let n = file::next(reader, &mut record);
     if n == 0 {
         return 1;
     }
@@ -31,46 +36,38 @@ fn one(number: u8, fd: i32) -> u64 {
     1
 }
 
-fn replay_all(number: u8, fd: i32, count: u64) -> u64 {
+fn replay_all<R: Read>(number: u8, reader: &mut R, count: u64) -> u64 {
     let mut failed: u64 = 0;
     let mut k: u64 = 0;
     while k < count {
-        failed = failed % 4294967296 + one(number, fd) % 2;
+        failed = failed % 4294967296 + one(number, reader) % 2;
         k += 1;
     }
     failed
 }
 
-fn tell(name: &[u8], run: u64, failed: u64) {
-    io::write_all(STDOUT_FILENO, name);
-    io::write_all(STDOUT_FILENO, b" ");
-    io::print_decimal(STDOUT_FILENO, run);
-    io::write_all(STDOUT_FILENO, b" run ");
-    io::print_decimal(STDOUT_FILENO, failed);
-    io::write_all(STDOUT_FILENO, b" failed\n");
+fn tell(rt: &impl Print, name: &str, run: u64, failed: u64) -> io::Result<()> {
+    println!(rt; "{name} {run} run {failed} failed")
 }
 
-fn replay(number: u8, path: &[u8], name: &[u8]) {
-    let fd = os::open_read(path);
-    if fd < 0 {
-        os::fail(path);
-        return;
-    }
+fn replay<R: Files + Print + Eprint>(rt: &R, number: u8, path: &str, name: &str) -> io::Result<()> {
+    let mut opened = match File::open(rt, path) {
+        Ok(opened) => opened,
+        Err(error) => return eprintln!(rt; "{path}: {error}"),
+    };
     let mut head = [0u64; 5];
-    if !file::read_words(fd, &mut head, 4) {
-        os::fail(path);
-        return;
+    if !file::read_words(&mut opened, &mut head, 4) {
+        return eprintln!(rt; "{path}: too short");
     }
-    let failed = replay_all(number, fd, head[3]);
-    tell(name, head[3], failed);
-    libc::close(fd);
+    let failed = replay_all(number, &mut opened, head[3]);
+    tell(rt, name, head[3], failed)
 }
 
-fn main() {
-    replay(0, b"script.bin", b"script");
-    replay(1, b"minimizer.bin", b"minimizer");
-    replay(2, b"interval.bin", b"interval");
-    replay(3, b"minimizer_finder.bin", b"minimizer_finder");
-    replay(4, b"interval_finder.bin", b"interval_finder");
-    replay(5, b"jobs.bin", b"jobs");
+fn main(rt: HostRuntime) -> io::Result<()> {
+    replay(&rt, 0, "script.bin", "script")?;
+    replay(&rt, 1, "minimizer.bin", "minimizer")?;
+    replay(&rt, 2, "interval.bin", "interval")?;
+    replay(&rt, 3, "minimizer_finder.bin", "minimizer_finder")?;
+    replay(&rt, 4, "interval_finder.bin", "interval_finder")?;
+    replay(&rt, 5, "jobs.bin", "jobs")
 }

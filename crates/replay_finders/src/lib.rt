@@ -1,5 +1,7 @@
 // One stored finder, of either kind: the call is made as the record says, and its answer and every entry of the lent lists are held to the
 // record. The two files have one form; what only intervals have is empty in the minimizers' file.
+#![tactic(auto)]
+
 use base::FinderAnswer;
 use records::{lists, words};
 

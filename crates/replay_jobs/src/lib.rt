@@ -1,4 +1,6 @@
 // One stored job: its bytes are run, and every byte that is printed, and every byte of the output past them, is held to the record.
+#![tactic(auto)]
+
 ghost use Rattle.std.specs.Prelude.{◌<◌};
 
 use records::words;

@@ -1,4 +1,6 @@
 // One stored script: the call is made as the record says, and its answer and every entry of the lent lists are held to the record.
+#![tactic(auto)]
+
 use base::ScriptAnswer;
 use records::{lists, words};
 

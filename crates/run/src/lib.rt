@@ -1,5 +1,7 @@
 // Runs a job: its bytes, and whether reading them failed, in; the printed bytes out. The reader, then the job's answer, then the lines. The decoded
 // lists are local arrays of the program's limits, so that none is ever too short.
+#![tactic(auto)]
+
 ghost use Rattle.rules.specs.Calls.{RunPromise};
 ghost use Rattle.job.specs.Read.{lists_of};
 ghost use Rattle.lines.specs.Written.{Written};

@@ -1,5 +1,7 @@
 // A script of inserts and deletes over the slide mapper: pivot and shared count after each step. The outward call stands here; below it
 // are the checks, which touch no buffer; `script_work` does the work, which starts and leaves its buffers cleared.
+#![tactic(auto)]
+
 mod checks;
 mod walk;
 

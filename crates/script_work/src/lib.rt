@@ -1,5 +1,7 @@
 // The work of a script that passed its checks, over work lists of exactly the needed sizes: the query is marked in the count words, the
 // mapper begins, and each step moves it.
+#![tactic(auto)]
+
 ghost use Rattle.std.specs.Prelude.{◌≡◌, ◌+◌, ◌^◌, ◌≤◌, ◌<◌, length, get_or, replicate};
 ghost use Rattle.slide_mapper.specs.State.{flags_of, slide_of, Ready};
 ghost use Rattle.script_work.specs.Work.{script_of, Sound, Placed, Accepted, Exact, Clear, marked, Begun, Stepped, look_of, looks_from, Underway, Start, Answered, Further, Worked};

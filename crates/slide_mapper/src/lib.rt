@@ -1,6 +1,8 @@
 // The bottom-k sketch of the union as a reference window slides (the original's `BitsetBottomSketchSlideMapper`). The state stands in
 // lent lists: a count word for each coordinate, twice the count of active reference items plus 1 where the hash is in the query; the
 // union's bits with their summary; and by value the pivot with the shared count.
+#![tactic(auto)]
+
 ghost use Rattle.std.specs.Prelude.{◌≡◌, ℕ, ◌+◌, ◌^◌, ◌≤◌, ◌<◌, min, ltb, length, get_or};
 ghost use Rattle.base.specs.Pick.{pick};
 ghost use Rattle.base.specs.Lists.{hit};
@@ -10,7 +12,7 @@ use base::Coord;
 use summary_bits::Found;
 
 // The union's k-th smallest coordinate, and how many coordinates through it are in the query and active.
-#[derive(Drop)]
+#[derive(Clone, Copy)]
 pub struct Slide {
     pub pivot: Coord,
     pub shared: u32,

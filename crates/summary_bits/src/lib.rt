@@ -1,5 +1,7 @@
 // A set of coordinate numbers: bit i of the words is 1 where i is in the set. The summary has a bit for each word, 1 exactly where
 // the word is not 0, so that a search which finds nothing in its own word passes over 64 empty words at a time.
+#![tactic(auto)]
+
 ghost use Rattle.std.specs.Prelude.{◌≡◌, ◌*◌, ◌+◌, ◌^◌, ◌<◌, ◌≤◌, eqb, length, get_or, set};
 ghost use Rattle.base.specs.Pick.{pick};
 ghost use Rattle.base.specs.Nearest.{LastBelow, FirstFrom};
@@ -11,7 +13,7 @@ use base::Coord;
 
 // The number of the nearest set bit, where there is one. It is a usize: an answer of 8 bytes, as with a Coord, is packed into one register
 // by the compiler and taken apart again, about a fifth of a search's time where bits stand close.
-#[derive(Drop)]
+#[derive(Clone, Copy)]
 pub enum Found {
     At(usize),
     Nothing,

@@ -1,5 +1,7 @@
 // What both sweeps share: the checks of their query, table and work lists, the clearing of these lists, the mapper before its first item,
 // and the way from a best score to the answer.
+#![tactic(auto)]
+
 ghost use Rattle.std.specs.Prelude.{◌≡◌, ◌+◌, ◌^◌, ◌≤◌, ◌<◌, length, replicate};
 ghost use Rattle.base.specs.Verdicts.{refuse};
 ghost use Rattle.rules.specs.Checks.{sweep_orders, sweep_table, sweep_needs};
@@ -102,7 +104,7 @@ pub fn clear(
 }
 
 // The mapper before its first item, and how many coordinates there are.
-#[derive(Drop)]
+#[derive(Clone, Copy)]
 pub struct Begun {
     pub coords: u32,
     pub at: Slide,
