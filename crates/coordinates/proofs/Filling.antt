@@ -3,7 +3,7 @@ use mathlib.Core.Path.{◌≡◌, refl, sym, ap, ◌∙◌}
 use mathlib.Core.List.{List, ◌∷◌, ◌++◌, append-nil}
 use Prim.Native.Nat.{ℕ, suc, ◌+◌, ◌-◌, ◌≤◌, ◌<◌}
 use native.Mathlib.Omega.{arith}
-use lib.ListN.{length, get_or, take, drop, set, length-append, length-take, length-drop, length-set, drop_of_length-le, length-map, get_or-append}
+use lib.ListN.{length, get_or, take, drop, set, length-set, drop_of_length-le, get_or-append}
 use lib.Seq.{drop-cons, take-length, get_or-append-add}
 use Rattle.base.proofs.Buffers.{over_more}
 

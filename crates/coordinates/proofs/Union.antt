@@ -1,12 +1,11 @@
 -- Sorted and without repeats, query and items are the rules' union: both ascend strictly and have the same members. Assumes nothing.
 use mathlib.Core.Path.{◌≡◌, refl, sym, ap, subst, ◌∙◌}
 use mathlib.Core.List.{List, ◌++◌, map}
-use mathlib.Core.Bool.{Bool}
 use Prim.Native.Nat.{ℕ, zero, suc, ◌+◌, ◌≤◌, ◌<◌, min}
 use native.Mathlib.Omega.{arith}
 use lib.Dec.{ltb}
 use borrow.Author.Tests.{lt-ltb}
-use lib.ListN.{length, get_or, take, length-append, length-map}
+use lib.ListN.{length, get_or, take}
 use lib.Seq.{take_at}
 use Rattle.base.specs.Lists.{Asc, times}
 use Rattle.base.specs.Sort.{sort_of}

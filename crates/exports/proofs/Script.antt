@@ -1,5 +1,5 @@
 -- The C struct of an answer is what the rules tell of it, case by case; so the call's promise carries over to the struct.
-use mathlib.Core.Path.{◌≡◌, refl, ap, ◌∙◌}
+use mathlib.Core.Path.{◌≡◌, ap, ◌∙◌}
 use Prim.Native.Nat.{ℕ}
 use Rattle.base.specs.declared.Refusal.{Refusal}
 use Rattle.base.specs.declared.Coord.{Coord}

@@ -1,5 +1,5 @@
 -- The script call as C sees it.
-use Rattle.std.specs.Prelude.{◌≡◌, ℕ, length, get_or}
+use Rattle.std.specs.Prelude.{◌≡◌, length, get_or}
 use Rattle.rules.specs.Script.{Script, looks}
 use Rattle.rules.specs.Refusals.{script_verdict, script_call}
 use Rattle.rules.specs.Told.{Told, told_script}

@@ -2,7 +2,7 @@
 use mathlib.Core.Path.{◌≡◌, refl, sym, ap, subst, ◌∙◌}
 use mathlib.Core.Bool.{Bool, true, false, ◌&&◌}
 use mathlib.Core.List.{List, [], ◌∷◌, ◌++◌}
-use Prim.Native.Nat.{ℕ, zero, suc, ◌+◌, ◌-◌, ◌≤◌, ◌<◌, min}
+use Prim.Native.Nat.{ℕ, zero, suc, ◌+◌, ◌≤◌}
 use native.Mathlib.Omega.{arith}
 use lib.Dec.{ltb, leb}
 use lib.ListN.{length, take, drop, length-take, length-drop, length-append}
@@ -12,7 +12,7 @@ use Rattle.base.specs.Lists.{Asc}
 use Rattle.base.specs.Sort.{sort_of}
 use Rattle.base.proofs.Sort.{length_sort, asc_sort, sort_sort, sort_append}
 use Rattle.rules.specs.Interval.{event_key}
-use Rattle.interval_events.specs.Events.{kept, keys_of, Front, Numbered, turns, Apart, Merged, Local, Made}
+use Rattle.interval_events.specs.Events.{kept, keys_of, Front, Numbered, turns, Apart, Merged, Local}
 
 -- answers at the front are within the list
 pub front_fits : {answers out : List ℕ} {r : ℕ} → Front answers out r → r ≤ length out

@@ -2,9 +2,9 @@
 -- the counts are. Assumes nothing.
 use mathlib.Core.Path.{◌≡◌, refl, sym, ap, ◌∙◌, subst}
 use mathlib.Core.Logic.{⊎_elim, ◌≢◌}
-use mathlib.Core.Bool.{Bool, true, false}
+use mathlib.Core.Bool.{Bool}
 use mathlib.Core.List.{List, [], ◌∷◌, ◌++◌}
-use Prim.Native.Nat.{ℕ, zero, suc, ◌+◌, ◌-◌, ◌*◌, ◌/◌, ◌≤◌, ◌<◌}
+use Prim.Native.Nat.{ℕ, zero, suc, ◌+◌, ◌-◌, ◌/◌, ◌≤◌, ◌<◌}
 use native.Mathlib.Omega.{arith}
 use lib.Dec.{eqb}
 use lib.ListN.{length, get_or, set, take, drop, get_or-eq_default, length-set, length-map}
@@ -12,7 +12,7 @@ use native.Mathlib.Numerals.{add-one}
 use lib.Seq.{get_or-set_same, get_or-set_other, drop-cons, take-suc}
 use borrow.Author.Tests.{eq-eqb, ne_eqb}
 use Rattle.base.specs.Pick.{pick}
-use Rattle.base.specs.Lists.{All, StrictAsc}
+use Rattle.base.specs.Lists.{All}
 use Rattle.base.proofs.Order.{lt_or_ge, eq_or_ne}
 use Rattle.rules.specs.Limits.{item_limit}
 use Rattle.rules.specs.Lists.{member}

@@ -1,5 +1,5 @@
 -- The events as keys, made from the intervals of a part of the lists: which of them are taken, the keys of one kind, and both kinds merged.
-use Rattle.std.specs.Prelude.{◌≡◌, ◌&&◌, List, [], ◌∷◌, ◌++◌, map, ℕ, ◌+◌, ◌/◌, ◌≤◌, ◌<◌, length, take, drop, ltb, leb}
+use Rattle.std.specs.Prelude.{◌≡◌, ◌&&◌, List, [], ◌∷◌, ◌++◌, map, ℕ, ◌+◌, ◌/◌, ◌≤◌, length, take, drop, ltb, leb}
 use Rattle.base.specs.Pick.{pick}
 use Rattle.base.specs.Lists.{Asc}
 use Rattle.base.specs.Sort.{sort_of}

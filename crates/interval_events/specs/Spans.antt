@@ -6,7 +6,7 @@ use Rattle.rules.specs.Limits.{item_limit}
 use Rattle.rules.specs.Script.{stepped}
 use Rattle.rules.specs.Moves.{marks}
 use Rattle.rules.specs.Sweep.{Sweep, Scored, best}
-use Rattle.rules.specs.Interval.{coords_of, event_at, event_kind, event_coord, spans_from}
+use Rattle.rules.specs.Interval.{coords_of, event_at, event_coord, spans_from}
 use Rattle.slide_mapper.specs.declared.Slide.{Slide}
 use Rattle.slide_mapper.specs.State.{flags_of, counts_of, Ready}
 

@@ -1,10 +1,10 @@
 -- From what the sweep found to the rules' answer: the early nones in their order, and that a best can be placed: its score is no more than the query's hashes, and its
 -- positions lie within the range. Assumes nothing.
-use mathlib.Core.Path.{◌≡◌, refl, sym, ap, subst, ◌∙◌}
+use mathlib.Core.Path.{◌≡◌, refl, sym, subst, ◌∙◌}
 use mathlib.Core.Logic.{⊎_elim, ◌≢◌}
-use mathlib.Core.Bool.{Bool, true, false, ◌&&◌, and-eq-true_iff}
+use mathlib.Core.Bool.{true, false, ◌&&◌, and-eq-true_iff}
 use mathlib.Core.List.{List, [], ◌∷◌, ◌++◌, map}
-use Prim.Native.Nat.{ℕ, zero, suc, ◌+◌, ◌-◌, ◌*◌, ◌≤◌, ◌<◌, ◌^◌}
+use Prim.Native.Nat.{ℕ, ◌+◌, ◌≤◌, ◌<◌, ◌^◌}
 use native.Mathlib.Omega.{arith}
 use lib.Dec.{ltb, leb, eqb}
 use lib.ListN.{length}
@@ -12,7 +12,6 @@ use borrow.Author.Tests.{lt-ltb, le-ltb, eq-eqb, ne_eqb, leb-true}
 use Rattle.base.specs.Pick.{pick}
 use Rattle.base.specs.Lists.{All}
 use Rattle.base.specs.declared.Best.{Best}
-use Rattle.base.specs.declared.SweepAnswer.{SweepAnswer}
 use Rattle.base.proofs.Checks.{eq_stop, eq_skip}
 use Rattle.base.proofs.Lists.{all_append}
 use Rattle.base.proofs.Order.{eq_or_ne}
@@ -25,7 +24,7 @@ use Rattle.rules.specs.Script.{stepped}
 use Rattle.rules.specs.Place.{settled, settled_in, interval_early, interval_stats, interval_from, interval_answer}
 use Rattle.rules.proofs.Score.{cases, number_fits}
 use Rattle.rules.proofs.IntervalEach.{Each, each_map}
-use Rattle.rules.proofs.IntervalEvents.{at_key, coord_of, starts_later, ends_later}
+use Rattle.rules.proofs.IntervalEvents.{at_key, coord_of}
 use Rattle.rules.proofs.IntervalSpans.{strict_coords}
 use Rattle.rules.proofs.IntervalKeys.{insert_keys, delete_keys, events_keys}
 use Rattle.rules.proofs.IntervalRounds.{interval_most}

@@ -1,5 +1,5 @@
 -- The verdict is the first refusal in number order; and where the sizes are fine the later checks may be asked, since the lengths are small. Assumes nothing.
-use mathlib.Core.Path.{◌≡◌, refl, sym, ◌∙◌}
+use mathlib.Core.Path.{◌≡◌, sym}
 use mathlib.Core.List.{List}
 use Prim.Native.Nat.{ℕ, ◌+◌, ◌≤◌}
 use lib.ListN.{length}

@@ -1,23 +1,21 @@
 -- The whole call: what a fine verdict lets the work count on, and from the work's answer and zero lists to the promise of the rules. Assumes nothing.
 use mathlib.Core.Path.{◌≡◌, refl, sym, ap, subst, ◌∙◌}
-use mathlib.Core.Bool.{true}
 use mathlib.Core.List.{List, ◌++◌}
 use Prim.Native.Nat.{ℕ, ◌+◌, ◌*◌, ◌≤◌}
-use lib.ListN.{length, take, drop, replicate}
-use lib.Seq.{length-take-le}
+use lib.ListN.{length, drop, replicate}
 use Rattle.base.specs.declared.Refusal.{Refusal}
 use Rattle.base.specs.declared.Verdict.{Verdict}
 use Rattle.base.specs.declared.Verdict.TheVariants.{Fine, No}
 use Rattle.base.specs.declared.SweepAnswer.{SweepAnswer}
 use Rattle.base.specs.Verdicts.{or_else}
 use Rattle.base.proofs.Verdicts.{or_fine}
-use Rattle.rules.specs.Checks.{ceil64, interval_input, sweep_needs, keys_need}
+use Rattle.rules.specs.Checks.{ceil64, sweep_needs, keys_need}
 use Rattle.rules.specs.Accepted.{SweepFits}
 use Rattle.rules.specs.Sweep.{Sweep}
 use Rattle.rules.specs.Place.{interval_answer}
 use Rattle.rules.specs.Refusals.{need, interval_input_in, interval_verdict, sweep_answer_of, interval_call, interval_scored, work_left}
 use Rattle.rules.specs.Told.{told_sweep}
-use Rattle.rules.specs.Calls.{SweepLent, sweep_room_of, SweepLeft, IntervalPromise, interval_premises}
+use Rattle.rules.specs.Calls.{SweepLent, sweep_room_of, SweepLeft, IntervalPromise}
 use Rattle.rules.proofs.Accepted.{interval_accepted, sweep_fits, keys_fit}
 use Rattle.rules.proofs.Interval.{interval_scored_lem}
 use Rattle.interval_sweep.specs.Given.{lent_of}

@@ -1,10 +1,10 @@
 -- From the keys of a part to the sweep over them: the keys lie past range start, their coordinates are in the list, the start keys ascend by position and kind
 -- since the starts do; and what the sweep over the merged keys finds is the rules' best. Assumes nothing.
-use mathlib.Core.Path.{◌≡◌, refl, sym, ap, subst, ◌∙◌}
+use mathlib.Core.Path.{◌≡◌, refl, sym, ap, ◌∙◌}
 use mathlib.Core.Logic.{⊎_elim}
 use mathlib.Core.Bool.{Bool, true, false, ◌&&◌, and-eq-true_iff}
-use mathlib.Core.List.{List, [], ◌∷◌, ◌++◌, map}
-use Prim.Native.Nat.{ℕ, zero, suc, ◌+◌, ◌-◌, ◌*◌, ◌/◌, ◌≤◌, ◌<◌}
+use mathlib.Core.List.{List, [], ◌∷◌, ◌++◌}
+use Prim.Native.Nat.{ℕ, ◌+◌, ◌-◌, ◌*◌, ◌/◌, ◌≤◌, ◌<◌}
 use native.Mathlib.Omega.{arith}
 use lib.Dec.{ltb, leb}
 use lib.ListN.{length, get_or, take, length-append}
@@ -15,7 +15,6 @@ use Rattle.base.specs.Sort.{sort_of}
 use Rattle.base.specs.declared.Best.{Best}
 use Rattle.base.proofs.Lists.{all_map, all_append}
 use Rattle.base.proofs.Sort.{all_same, length_same}
-use Rattle.rules.specs.Limits.{item_limit}
 use Rattle.rules.specs.Sweep.{Sweep, best}
 use Rattle.rules.specs.Interval.{beginning, event_key, event_at, event_coord, spans_from, spans}
 use Rattle.rules.proofs.Score.{cases}

@@ -2,8 +2,8 @@
 -- Assumes nothing.
 use mathlib.Core.Path.{◌≡◌, refl, sym, ap, subst, ◌∙◌}
 use mathlib.Core.Logic.{⊎_elim}
-use mathlib.Core.List.{List, [], ◌∷◌, ◌++◌}
-use Prim.Native.Nat.{ℕ, suc, ◌+◌, ◌-◌, ◌*◌, ◌/◌, ◌≤◌, ◌<◌, min}
+use mathlib.Core.List.{List, [], ◌∷◌}
+use Prim.Native.Nat.{ℕ, suc, ◌+◌, ◌-◌, ◌*◌, ◌≤◌, ◌<◌}
 use native.Mathlib.Omega.{arith}
 use lib.Dec.{ltb}
 use lib.ListN.{length, take, drop, replicate, length-take, length-drop, length-replicate}
@@ -12,15 +12,13 @@ use Rattle.base.specs.declared.Range.{Range}
 use Rattle.base.specs.declared.Settings.{Settings}
 use Rattle.base.proofs.Lists.{all_map, all_drop, asc_take, asc_drop}
 use Rattle.base.proofs.Order.{lt_or_ge}
-use Rattle.rules.specs.Limits.{query_limit, item_limit}
 use Rattle.rules.specs.Lists.{filter}
 use Rattle.rules.specs.Checks.{ceil64}
 use Rattle.rules.specs.Score.{number_of}
 use Rattle.rules.specs.Sweep.{Sweep}
-use Rattle.rules.specs.Interval.{Interval, intervals_of, taken, kmers_per_start}
+use Rattle.rules.specs.Interval.{Interval, intervals_of, kmers_per_start}
 use Rattle.rules.proofs.Score.{none_below, number_later, number_skip, number_up, number_most}
 use Rattle.rules.proofs.IntervalTaken.{taken_from, taken_to, taken_part, intervals_part}
-use Rattle.keys.specs.Lists.{below}
 use Rattle.keys.proofs.Numbers.{below_number}
 use Rattle.interval_work.specs.Work.{Zero, Part, Lent, Clear, Ready, Of}
 use Rattle.interval_events.proofs.Gathering.{take_behind}

@@ -2,9 +2,9 @@
 -- starts ascend and each taken interval that does not begin active has a start key. Assumes nothing.
 use mathlib.Core.Path.{◌≡◌, refl, sym, ap, subst, ◌∙◌}
 use mathlib.Core.Logic.{⊎_elim}
-use mathlib.Core.Bool.{Bool, true, false, ◌&&◌, and-true, and-eq-true_iff}
-use mathlib.Core.List.{List, [], ◌∷◌, ◌++◌, map}
-use Prim.Native.Nat.{ℕ, zero, suc, ◌+◌, ◌-◌, ◌*◌, ◌≤◌, ◌<◌}
+use mathlib.Core.Bool.{Bool, true, false, ◌&&◌}
+use mathlib.Core.List.{List, [], ◌∷◌, map}
+use Prim.Native.Nat.{ℕ, zero, suc, ◌-◌, ◌≤◌, ◌<◌}
 use native.Mathlib.Omega.{arith}
 use lib.Dec.{ltb, leb}
 use lib.ListN.{length, take, length-map}
@@ -20,13 +20,13 @@ use Rattle.rules.specs.Moves.{marks}
 use Rattle.rules.specs.Sweep.{Sweep}
 use Rattle.rules.specs.Interval.{Interval, intervals_of, taken, hashes_of, coords_of, event_key, inserted, beginning}
 use Rattle.rules.proofs.Score.{cases, length-filter}
-use Rattle.rules.proofs.IntervalEvents.{coord_of, starts_later, ends_later}
+use Rattle.rules.proofs.IntervalEvents.{coord_of, starts_later}
 use Rattle.rules.proofs.IntervalKeys.{insert_keys, delete_keys}
 use Rattle.rules.proofs.IntervalTaken.{starts_of, starts_are}
 use Rattle.slide_mapper.specs.State.{flags_of, counts_of}
 use Rattle.slide_mapper.proofs.Marked.{ones_flags, ones_counts}
 use Rattle.coordinates.specs.Coordinates.{flags}
-use Rattle.interval_events.specs.Spans.{Asks, raised}
+use Rattle.interval_events.specs.Spans.{raised}
 use Rattle.interval_events.specs.Events.{kept, keys_of}
 use Rattle.interval_work.specs.Work.{start_keys, end_keys, Tells, Part}
 use Rattle.interval_work.proofs.Beginning.{all_kept, asc_kept}

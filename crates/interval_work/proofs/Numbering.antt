@@ -1,25 +1,23 @@
 -- The coordinates at the fronts of the lent lists: the flags in the count words, with which the mapper may begin over zero bit words, and the numbers of the items
 -- behind those of the query. Assumes nothing.
-use mathlib.Core.Path.{◌≡◌, refl, sym, ap, subst, ◌∙◌}
+use mathlib.Core.Path.{◌≡◌, refl, sym, ap, ◌∙◌}
 use mathlib.Core.Bool.{true, or-true}
 use mathlib.Core.List.{List, [], ◌∷◌, ◌++◌, map, map-append, append_assoc}
 use Prim.Native.Nat.{ℕ, zero, suc, ◌+◌, ◌-◌, ◌*◌, ◌≤◌, ◌<◌}
 use native.Mathlib.Omega.{arith}
-use lib.ListN.{length, take, drop, replicate, length-map, length-append, length-take, length-drop}
+use lib.ListN.{length, take, drop, replicate, length-map}
 use lib.Seq.{take_at, drop_at, length-take-le}
 use Rattle.base.specs.Lists.{All, StrictAsc}
-use Rattle.base.specs.Buffers.{over}
 use Rattle.rules.specs.Lists.{member}
 use Rattle.rules.specs.Checks.{ceil64}
 use Rattle.rules.specs.Score.{union, number_of}
 use Rattle.rules.specs.Ranks.{size}
-use Rattle.rules.proofs.Score.{member_union, union_left, strict_union, number_fits, member_all, length_union}
+use Rattle.rules.proofs.Score.{member_union, union_left, strict_union, number_fits, member_all}
 use Rattle.summary_bits.proofs.Words.{clear_bits}
 use Rattle.summary_bits.proofs.Kept.{clear_summary}
 use Rattle.slide_mapper.specs.State.{flags_of, Blank}
 use Rattle.slide_mapper.proofs.Marked.{ones-length, ones_low, ones-size}
 use Rattle.coordinates.specs.Coordinates.{flags, numbers, Asked, Answered}
-use Rattle.coordinates.specs.Coordinates as coordinates
 use Rattle.interval_work.specs.Work.{Zero, Rooms, Numbers}
 use Rattle.interval_events.proofs.Gathering.{take_behind}
 

@@ -1,22 +1,19 @@
 -- The sweep over a part: where the checks let its lists through, the numbering and the sweep over the events may be asked, and what they answer is what the rules'
 -- sweep finds. Assumes nothing.
-use mathlib.Core.Path.{◌≡◌, refl, sym, ap, subst, ◌∙◌}
-use mathlib.Core.List.{List, [], ◌∷◌, ◌++◌, map}
-use Prim.Native.Nat.{ℕ, zero, suc, ◌+◌, ◌-◌, ◌*◌, ◌/◌, ◌≤◌, ◌<◌}
+use mathlib.Core.Path.{◌≡◌, sym, ap, subst, ◌∙◌}
+use mathlib.Core.List.{List, [], ◌∷◌, map}
+use Prim.Native.Nat.{ℕ, ◌+◌, ◌-◌, ◌≤◌, ◌<◌}
 use native.Mathlib.Omega.{arith}
 use lib.Dec.{ltb}
 use lib.ListN.{length, take, drop, length-map, length-append}
-use lib.Seq.{length-take-le}
 use Rattle.base.specs.Pick.{pick}
 use Rattle.base.specs.Lists.{All}
 use Rattle.base.specs.declared.Best.{Best}
 use Rattle.base.proofs.Checks.{pick-le}
 use Rattle.base.proofs.Lists.{all_map}
-use Rattle.rules.specs.Limits.{query_limit, item_limit}
-use Rattle.rules.specs.Checks.{ceil64}
 use Rattle.rules.specs.Score.{union, number_of}
 use Rattle.rules.specs.Sweep.{Sweep, best}
-use Rattle.rules.specs.Interval.{taken, coords_of, spans}
+use Rattle.rules.specs.Interval.{taken, spans}
 use Rattle.rules.proofs.Score.{length_union}
 use Rattle.slide_mapper.specs.State.{flags_of, counts_of}
 use Rattle.slide_mapper.proofs.Marked.{ones-length}

@@ -1,7 +1,6 @@
 -- What the parts of the work promise each other: the sweep over a part of the intervals, told by its coordinate numbers, and by its lists.
-use Rattle.std.specs.Prelude.{◌≡◌, Bool, List, map, ℕ, ◌+◌, ◌-◌, ◌*◌, ◌≤◌, ◌<◌, length, take, drop, replicate, ltb}
+use Rattle.std.specs.Prelude.{◌≡◌, Bool, List, ℕ, ◌+◌, ◌-◌, ◌*◌, ◌≤◌, ◌<◌, length, take, replicate, ltb}
 use Rattle.base.specs.Lists.{All, Asc, StrictAsc}
-use Rattle.base.specs.declared.Best.{Best}
 use Rattle.base.specs.declared.Range.{Range}
 use Rattle.base.specs.declared.Settings.{Settings}
 use Rattle.rules.specs.Limits.{query_limit, item_limit}
@@ -9,11 +8,11 @@ use Rattle.rules.specs.Lists.{filter}
 use Rattle.rules.specs.Checks.{ceil64}
 use Rattle.rules.specs.Score.{union}
 use Rattle.rules.specs.Sweep.{Sweep, best}
-use Rattle.rules.specs.Interval.{Interval, intervals_of, taken, coords_of, beginning, event_at, event_coord, spans_from, spans}
+use Rattle.rules.specs.Interval.{Interval, intervals_of, taken, coords_of, beginning, event_at, event_coord, spans}
 use Rattle.rules.proofs.IntervalKeys.{insert_keys, delete_keys}
 use Rattle.keys.specs.Lists.{below}
 use Rattle.coordinates.specs.Coordinates.{flags, numbers}
-use Rattle.slide_mapper.specs.State.{flags_of, counts_of, Blank}
+use Rattle.slide_mapper.specs.State.{Blank}
 use Rattle.interval_events.specs.Spans.{Asks, raised}
 use Rattle.interval_events.specs.Events.{kept, keys_of}
 use Rattle.interval_work.specs.declared.Swept.{Swept}

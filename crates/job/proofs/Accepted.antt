@@ -1,6 +1,6 @@
 -- Where the rules' reading is whole, its fields are those from the front of the bytes, each with the length of its row and joined within the row's limit. The
 -- mode in force at a field is the mode at the end: 02 comes before every tag whose size depends on it. Assumes nothing.
-use Prim.Native.Nat.{ℕ, zero, suc, ◌+◌, ◌-◌, ◌*◌, ◌/◌, ◌%◌, ◌<◌, ◌≤◌}
+use Prim.Native.Nat.{ℕ, zero, suc, ◌+◌, ◌*◌, ◌/◌, ◌%◌, ◌<◌, ◌≤◌}
 use mathlib.Core.Path.{◌≡◌, refl, sym, ap, ◌∙◌, subst}
 use mathlib.Core.Logic.{◌≢◌, ⊎_elim}
 use mathlib.Core.Bool.{Bool, true, false}
@@ -20,7 +20,7 @@ use Rattle.job_fields.specs.Table.{rows_with}
 use Rattle.job.specs.Units.{fields_in, units_in, column_of, Each, Joined, item_unit, Accepted}
 use Rattle.job_fields.proofs.Picks.{pick_yes, pick_no}
 use Rattle.job_fields.proofs.Faults.{Passed, passed}
-use Rattle.job_fields.proofs.Fields.{joined_none, joined_cons, joined_here, joined_past, joined_more, joined_kept, before_more}
+use Rattle.job_fields.proofs.Fields.{joined_none, joined_here, joined_past, joined_more, joined_kept, before_more}
 use Rattle.job_fields.proofs.Heads.{cut_header}
 use Rattle.job_fields.proofs.Steps.{in_order, row_tag, reads_cut, reads_fault, reads_end, reads_on}
 use Rattle.job.proofs.UnitLists.{units_none, units-append, units_count}

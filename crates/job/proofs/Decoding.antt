@@ -1,21 +1,18 @@
 -- What the second pass reads is what the rules decode: the columns are the units of the joined fields, and the first unit of a field that stands once is that field.
 -- Assumes nothing.
-use Prim.Native.Nat.{ℕ, ◌+◌, ◌*◌, ◌/◌, ◌%◌, ◌<◌, ◌≤◌}
-use mathlib.Core.Path.{◌≡◌, refl, sym, ap, ◌∙◌, subst}
-use mathlib.Core.Bool.{Bool, true, false}
+use Prim.Native.Nat.{ℕ, ◌+◌, ◌/◌, ◌%◌, ◌<◌, ◌≤◌}
+use mathlib.Core.Path.{◌≡◌, sym, ap, ◌∙◌, subst}
 use mathlib.Core.List.{List, [], ◌∷◌, map}
 use native.Mathlib.Nat.{mod-one}
 use native.Mathlib.Omega.{arith}
 use borrow.Author.Tests.{eq-eqb, ne_eqb}
-use lib.Dec.{eqb}
 use lib.Ieee.{Float, binary64, of_bits}
 use lib.ListN.{length, get_or, take, drop, length-map}
 use lib.Seq.{get_or-take, take_all}
-use Rattle.base.specs.Pick.{pick}
 use Rattle.base.specs.Buffers.{over}
-use Rattle.rules.specs.Job.{Field, Job, joined_data, mode_of, job_of, number, number_at, units_of, units}
-use Rattle.job.specs.Units.{fields_in, units_in, units_from, Stands, Met, column_of, float_at, Column, Each, Joined, item_unit, Accepted}
-use Rattle.job.specs.Read.{asked_by, asked_of, decoded, decoded_of, Lists, lists_of, filled, Items, Estimates}
+use Rattle.rules.specs.Job.{Field, joined_data, mode_of, job_of, number, number_at, units}
+use Rattle.job.specs.Units.{fields_in, units_from, Stands, Met, column_of, float_at, Column, Each, Joined, item_unit, Accepted}
+use Rattle.job.specs.Read.{asked_by, asked_of, decoded, decoded_of, lists_of, filled, Items, Estimates}
 use Rattle.job.specs.declared.fill.Cursor.{Cursor}
 use Rattle.job.specs.declared.fill.Asked.{Asked}
 use Rattle.job.specs.declared.fill.Decoded.{Decoded}

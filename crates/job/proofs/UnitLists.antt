@@ -1,11 +1,11 @@
 -- The units of n bytes in a list: one is taken from the front as long as there are n bytes; whole lists of units join. Assumes nothing.
-use Prim.Native.Nat.{ℕ, zero, suc, ◌+◌, ◌-◌, ◌*◌, ◌/◌, ◌%◌, ◌<◌, ◌≤◌}
+use Prim.Native.Nat.{ℕ, zero, suc, ◌-◌, ◌*◌, ◌/◌, ◌%◌, ◌<◌, ◌≤◌}
 use mathlib.Core.Path.{◌≡◌, refl, sym, ap, ◌∙◌}
 use mathlib.Core.List.{List, [], ◌∷◌, ◌++◌, map}
-use native.Mathlib.Nat.{div-eq_of_lt, div-eq-sub-div, suc-mul, add-mul, div-add-mod', mul-div_cancel}
+use native.Mathlib.Nat.{div-eq_of_lt, div-eq-sub-div, suc-mul, div-add-mod'}
 use native.Mathlib.Numerals.{add-one}
 use native.Mathlib.Omega.{arith}
-use lib.ListN.{length, take, drop, length-append, length-drop, take-append-drop}
+use lib.ListN.{length, take, drop, length-append, length-drop}
 use lib.Seq.{take-nil, take-append-le, drop-append-le, take-take}
 use Rattle.rules.specs.Job.{number, number_at, units_of, units}
 

@@ -1,32 +1,28 @@
 -- The step over a field, branch by branch, and what it says of the rules' reading: the reader holds of the fields before only the last tag, the mode and the bytes
 -- joined under that tag, and since tags ascend that is all the next field can ask. Assumes nothing.
-use Prim.Native.Nat.{ℕ, zero, suc, ◌+◌, ◌<◌, ◌≤◌}
+use Prim.Native.Nat.{ℕ, suc, ◌+◌, ◌<◌, ◌≤◌}
 use mathlib.Core.Path.{◌≡◌, refl, sym, ap, ◌∙◌, subst}
 use mathlib.Core.Logic.{◌≢◌, ⊎_elim}
 use mathlib.Core.Bool.{Bool, true, false, ◌&&◌, not}
 use mathlib.Core.List.{List, [], ◌∷◌, ◌++◌, flatten}
 use native.Mathlib.Omega.{arith}
-use borrow.Author.Tests.{lt-ltb, le-ltb, eq-eqb, ne_eqb, ltb-true, ltb-false, eqb-true, eqb-false}
+use borrow.Author.Tests.{lt-ltb, eq-eqb, ne_eqb, ltb-false, eqb-true}
 use lib.Dec.{ltb, eqb}
-use lib.ListN.{length, get_or, take, drop, length-drop, length-append}
-use lib.Seq.{drop-drop, length-take-le}
+use lib.ListN.{length, get_or, take, drop, length-append}
+use lib.Seq.{drop-drop}
 use Rattle.base.specs.Pick.{pick}
-use Rattle.base.specs.Verdicts.{refuse}
-use Rattle.base.specs.declared.Verdict.TheVariants.{Fine}
 use Rattle.base.proofs.Order.{eq_or_ne}
-use Rattle.rules.specs.Limits.{job_limit}
 use Rattle.rules.specs.Lists.{filter}
 use Rattle.rules.specs.Script.{last_or}
-use Rattle.rules.specs.Job.{FieldRow, single, field_table, Field, joined_data, mode_of, tag_before, misplaced, fault_by, fault_of, field_at, length_at, is_cut, Reading, refused_at, whole, after_end, read_from, read}
+use Rattle.rules.specs.Job.{FieldRow, single, field_table, Field, joined_data, mode_of, tag_before, misplaced, fault_by, fault_of, field_at, length_at, is_cut, refused_at, after_end, read_from}
 use Rattle.job_fields.specs.Table.{rows_with}
-use Rattle.job_fields.specs.Judge.{earlier_of, seen_after, fault_in, over_of, step_of, verdict_of}
+use Rattle.job_fields.specs.Judge.{earlier_of, seen_after, fault_in, over_of, step_of}
 use Rattle.job_fields.specs.declared.judge.Seen.{Seen}
-use Rattle.job_fields.specs.declared.judge.Step.{Step}
 use Rattle.job_fields.specs.declared.judge.Step.TheVariants.{Fault, Next, End}
 use Rattle.job_fields.proofs.Picks.{pick_yes, pick_no}
-use Rattle.job_fields.proofs.Faults.{Passed, passed}
-use Rattle.job_fields.proofs.Heads.{neither, whole_field}
-use Rattle.job_fields.proofs.Fields.{joined_more, joined_kept, joined_none, before_more}
+use Rattle.job_fields.proofs.Faults.{passed}
+use Rattle.job_fields.proofs.Heads.{neither}
+use Rattle.job_fields.proofs.Fields.{joined_more, joined_kept, before_more}
 
 -- ---- the branches of a step
 

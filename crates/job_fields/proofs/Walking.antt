@@ -7,13 +7,13 @@ use mathlib.Core.List.{List, [], ◌∷◌, ◌++◌}
 use native.Mathlib.Omega.{arith}
 use borrow.Author.Tests.{lt-ltb, le-ltb, ltb-true, ltb-false, eqb-true, eqb-false}
 use lib.Dec.{ltb, eqb}
-use lib.ListN.{length, get_or, take, drop, length-drop, drop_of_length-le}
+use lib.ListN.{length, get_or, drop, length-drop, drop_of_length-le}
 use lib.Seq.{drop-drop, drop-cons, length-take-le}
 use Rattle.base.specs.Pick.{pick}
 use Rattle.base.specs.Verdicts.{refuse}
 use Rattle.base.specs.declared.Verdict.TheVariants.{Fine}
 use Rattle.rules.specs.Limits.{job_limit}
-use Rattle.rules.specs.Job.{Field, fault_of, field_at, length_at, is_cut, refused_at, after_end, read_from, read}
+use Rattle.rules.specs.Job.{Field, fault_of, field_at, length_at, is_cut, after_end, read_from, read}
 use Rattle.job_fields.specs.Table.{rows_with}
 use Rattle.job_fields.specs.Judge.{earlier_of, seen_after, fault_in, over_of, step_of, verdict_of}
 use Rattle.job_fields.specs.declared.judge.Seen.{Seen}

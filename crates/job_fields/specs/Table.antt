@@ -1,5 +1,5 @@
 -- The crate's table in the rules' terms.
-use Rattle.std.specs.Prelude.{ℕ, Bool, true, false, ◌&&◌, List, [], ◌∷◌, ltb, eqb}
+use Rattle.std.specs.Prelude.{ℕ, Bool, false, ◌&&◌, List, [], ◌∷◌, ltb, eqb}
 use Rattle.rules.specs.Lists.{filter}
 use Rattle.rules.specs.Job.{FieldRow, field_table}
 use Rattle.job_fields.specs.declared.table.Row.{Row}

@@ -1,5 +1,5 @@
 -- Bytes written into an array at an offset, and digits by their base.
-use Rattle.std.specs.Prelude.{ℕ, zero, suc, ◌+◌, ◌/◌, ◌%◌, ◌≤◌, ◌≡◌, Bool, true, false, List, [], ◌∷◌, ◌++◌, ltb, length, get_or, take, drop}
+use Rattle.std.specs.Prelude.{ℕ, zero, suc, ◌+◌, ◌/◌, ◌%◌, ◌≤◌, ◌≡◌, true, false, List, [], ◌∷◌, ◌++◌, ltb, length, get_or, take, drop}
 use Rattle.base.specs.declared.SweepAnswer.{SweepAnswer}
 use Rattle.rules.specs.Text.{text}
 use Rattle.rules.specs.Lines.{hex_digit, hex, line, counts_line, refused_line, mapped_line}

@@ -1,6 +1,6 @@
 -- Which items are active after a move: item e comes to those from b to e at their end, and item b stands at their front. Assumes nothing.
-use mathlib.Core.Path.{◌≡◌, refl, sym, ap, ◌∙◌, subst}
-use mathlib.Core.List.{List, [], ◌∷◌, ◌++◌}
+use mathlib.Core.Path.{◌≡◌, sym, ap, ◌∙◌, subst}
+use mathlib.Core.List.{List, [], ◌∷◌}
 use Prim.Native.Nat.{ℕ, suc, ◌+◌, ◌-◌, ◌^◌, ◌≤◌, ◌<◌}
 use native.Mathlib.Omega.{arith}
 use lib.ListN.{length, get_or, take, drop, length-drop, length-take}
@@ -8,8 +8,7 @@ use lib.Seq.{take-suc, drop-cons, get_or-drop}
 use Rattle.base.specs.Lists.{All, hit, times}
 use Rattle.base.proofs.Lists.{all_at, times-append}
 use Rattle.slide_mapper.specs.declared.Slide.{Slide}
-use Rattle.slide_mapper.specs.State.{flags_of, Ready, Inserted, Deleted}
-use Rattle.sweep.specs.Active.{Active}
+use Rattle.slide_mapper.specs.State.{Inserted, Deleted}
 use Rattle.sweep.proofs.Active.{active_room, active_more, active_less}
 use Rattle.minimizer_stops.specs.Stops.{Holds}
 

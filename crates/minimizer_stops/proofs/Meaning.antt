@@ -4,7 +4,6 @@ use mathlib.Core.Path.{◌≡◌, refl, sym, ap, ◌∙◌}
 use mathlib.Core.Bool.{Bool, true}
 use mathlib.Core.List.{List, [], ◌∷◌, map}
 use Prim.Native.Nat.{ℕ, ◌+◌, ◌-◌, ◌<◌}
-use native.Mathlib.Omega.{arith}
 use lib.ListN.{length, take, drop, length-map}
 use Rattle.base.specs.Lists.{All, StrictAsc}
 use Rattle.base.proofs.Lists.{all_take, all_drop, map-take, map-drop}
@@ -19,7 +18,7 @@ use Rattle.sweep.specs.Active.{asked}
 use Rattle.sweep.proofs.Numbers.{score_numbers}
 use Rattle.minimizer_stops.specs.declared.Swept.{Swept}
 use Rattle.minimizer_stops.specs.Stops.{sites, scored_for, stops_of, Whole}
-use Rattle.minimizer_stops.proofs.Positions.{same_length, same_position, same_first, same_stops}
+use Rattle.minimizer_stops.proofs.Positions.{same_position, same_first, same_stops}
 
 abbrev hashes : List Item → List ℕ
 hashes items = map (λ (x : Item). x.hash) items

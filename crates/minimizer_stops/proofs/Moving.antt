@@ -1,10 +1,10 @@
 -- From a stop to the next, by the positions alone: which of b and e moves on is a comparison of two distances, b stays below e since positions never descend
 -- and W is at least 1, and the next start is farther exactly where the nearer distance is above 0. Assumes nothing.
 use mathlib.Core.Path.{◌≡◌, refl, sym, ap, ◌∙◌}
-use mathlib.Core.Logic.{⊎_elim, ◌≢◌}
-use mathlib.Core.Bool.{true, false, ◌&&◌, and-eq-true_iff}
+use mathlib.Core.Logic.{⊎_elim}
+use mathlib.Core.Bool.{true, false, and-eq-true_iff}
 use mathlib.Core.List.{List}
-use Prim.Native.Nat.{ℕ, ◌+◌, ◌-◌, ◌^◌, ◌≤◌, ◌<◌, min}
+use Prim.Native.Nat.{ℕ, ◌+◌, ◌-◌, ◌≤◌, ◌<◌, min}
 use native.Mathlib.Omega.{arith}
 use lib.Dec.{ltb, leb, eqb}
 use lib.ListN.{length, get_or, length-map}
@@ -16,11 +16,10 @@ use Rattle.base.proofs.Lists.{asc_at}
 use Rattle.base.proofs.Checks.{pick-le}
 use Rattle.rules.specs.Minimizer.{Item, position, goes_on, to_begin, to_end, next_stop, moves}
 use Rattle.rules.specs.Minimizer as rules
-use Rattle.rules.proofs.MinimizerPositions.{positions}
 use Rattle.rules.proofs.MinimizerLocal.{items_positions}
 use Rattle.rules.proofs.MinimizerSteps.{next_further}
 use Rattle.minimizer_stops.specs.declared.Stop.{Stop}
-use Rattle.minimizer_stops.specs.Stops.{sites, stop_of, Room, Step}
+use Rattle.minimizer_stops.specs.Stops.{sites, stop_of, Step}
 
 module _ (ps : List ℕ) where
   pub site_length : length (sites ps) ≡ length ps

@@ -2,7 +2,7 @@
 -- since its items are the active ones. Assumes nothing.
 use mathlib.Core.Path.{◌≡◌, refl, sym, ap, ◌∙◌, subst}
 use mathlib.Core.Bool.{Bool, true, false}
-use mathlib.Core.List.{List, [], ◌∷◌, map}
+use mathlib.Core.List.{List, [], ◌∷◌}
 use Prim.Native.Nat.{ℕ, suc, ◌+◌, ◌-◌, ◌^◌, ◌≤◌, ◌<◌}
 use native.Mathlib.Omega.{arith}
 use lib.ListN.{length, get_or, take, drop}
@@ -15,10 +15,9 @@ use Rattle.rules.proofs.MinimizerLocal.{items_positions, items_hashes, map-part}
 use Rattle.rules.proofs.MinimizerSteps.{stops_end, stops_last, stops_on, Fuelled, fuelled_next, fuelled_some}
 use Rattle.slide_mapper.specs.declared.Slide.{Slide}
 use Rattle.slide_mapper.specs.State.{flags_of}
-use Rattle.sweep.specs.Active.{asked, Active}
+use Rattle.sweep.specs.Active.{asked}
 use Rattle.sweep.proofs.Active.{active_score}
 use Rattle.minimizer_stops.specs.declared.Stop.{Stop}
-use Rattle.minimizer_stops.specs.declared.Swept.{Swept}
 use Rattle.minimizer_stops.specs.Stops.{sites, stop_of, scored_at, scored_for, stops_of, Room, Holds, Start, Over}
 use Rattle.minimizer_stops.proofs.Moving.{site_length, goes_facts, moves_on, further, next_order}
 

@@ -1,13 +1,12 @@
 -- The whole sweep: the first stop is found by a count of positions; its score begins the best, where scoring it again changes nothing; and where it is not scored
 -- nothing is. Assumes nothing.
-use mathlib.Core.Path.{◌≡◌, refl, sym, ap, ◌∙◌, subst}
+use mathlib.Core.Path.{◌≡◌, refl, sym, ap, ◌∙◌}
 use mathlib.Core.Logic.{⊎_elim}
 use mathlib.Core.Bool.{Bool, true, false}
-use mathlib.Core.List.{List, [], ◌∷◌, map}
-use Prim.Native.Nat.{ℕ, suc, ◌+◌, ◌-◌, ◌^◌, ◌≤◌, ◌<◌}
+use mathlib.Core.List.{List, [], ◌∷◌}
+use Prim.Native.Nat.{ℕ, suc, ◌+◌, ◌-◌, ◌≤◌, ◌<◌}
 use native.Mathlib.Nat.{le_refl}
 use native.Mathlib.Omega.{arith}
-use lib.Dec.{ltb, eqb}
 use lib.ListN.{length, get_or}
 use borrow.Author.Tests.{le-ltb, eq-eqb}
 use Rattle.base.specs.Pick.{pick}
@@ -18,7 +17,7 @@ use Rattle.rules.specs.Sweep.{Scored, base, better, best_from, best}
 use Rattle.rules.specs.Minimizer.{Item, items_of, position, below, first_stop, goes_on, moves, next_stop, scored_stop, stops_from}
 use Rattle.rules.specs.Minimizer as rules
 use Rattle.rules.proofs.Score.{cases}
-use Rattle.rules.proofs.MinimizerPositions.{positions, lower, lower-le, lower_above, below_is}
+use Rattle.rules.proofs.MinimizerPositions.{lower, lower-le, lower_above, below_is}
 use Rattle.rules.proofs.MinimizerLocal.{items_positions}
 use Rattle.rules.proofs.MinimizerSteps.{stops_end, stops_last, stops_on}
 use Rattle.keys.specs.Lists.{below as keysBelow}
@@ -28,7 +27,7 @@ use Rattle.slide_mapper.specs.State.{flags_of}
 use Rattle.sweep.specs.Active.{asked}
 use Rattle.minimizer_stops.specs.declared.Stop.{Stop}
 use Rattle.minimizer_stops.specs.declared.Swept.{Swept}
-use Rattle.minimizer_stops.specs.Stops.{sites, stop_of, scored_at, scored_for, stops_of, Holds, Start, Over, Begin, Whole}
+use Rattle.minimizer_stops.specs.Stops.{sites, stop_of, scored_at, scored_for, stops_of, Holds, Over, Whole}
 use Rattle.minimizer_stops.proofs.Moving.{site_at, goes_facts}
 use Rattle.minimizer_stops.proofs.Running.{stop_scored}
 

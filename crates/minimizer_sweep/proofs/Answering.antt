@@ -1,13 +1,13 @@
 -- The answer for one range: an early none where the rules have one, else the place of the best, which has its entry in the table and fits its fields, since no score
 -- passes the number of query hashes and what is recorded are positions. Assumes nothing.
-use mathlib.Core.Path.{◌≡◌, refl, sym, ap, ◌∙◌, subst}
+use mathlib.Core.Path.{◌≡◌, refl, sym, ap, ◌∙◌}
 use mathlib.Core.Logic.{⊎_elim}
-use mathlib.Core.Bool.{Bool, true, false, ◌||◌, or-true, or-false}
+use mathlib.Core.Bool.{Bool, true, false, or-true}
 use mathlib.Core.List.{List, [], ◌∷◌, map}
 use Prim.Native.Nat.{ℕ, ◌+◌, ◌-◌, ◌^◌, ◌≤◌, ◌<◌}
 use native.Mathlib.Omega.{arith}
 use lib.Dec.{ltb, eqb}
-use lib.Ieee.{Float, nan}
+use lib.Ieee.{Float}
 use lib.ListN.{length, get_or, take, drop, length-take, get_or-eq_default}
 use lib.Seq.{get_or-take, get_or-drop}
 use borrow.Author.Tests.{eq-eqb, ne_eqb}
@@ -19,13 +19,10 @@ use Rattle.base.specs.declared.Stats.{Stats}
 use Rattle.base.specs.declared.SweepAnswer.{SweepAnswer}
 use Rattle.base.specs.declared.SweepAnswer.TheVariants.{Nothing}
 use Rattle.base.proofs.Order.{lt_or_ge}
-use Rattle.rules.specs.Limits.{query_limit}
-use Rattle.rules.specs.Sweep.{Sweep, Scored, base, better, best_from, best}
+use Rattle.rules.specs.Sweep.{Sweep, base, better, best_from, best}
 use Rattle.rules.specs.Minimizer.{Item, Stop, windows_per_start, is_local, local_items, position, scored_stop, stops, scored_stops}
 use Rattle.rules.specs.Place.{settled, settled_in, no_stats, minimizer_early, minimizer_stats, minimizer_from, minimizer_answer}
-use Rattle.rules.specs.Score.{number_of}
-use Rattle.rules.proofs.MinimizerLocal.{local_from, local_to, local_length, local_positions}
-use Rattle.rules.proofs.MinimizerPositions.{positions}
+use Rattle.rules.proofs.MinimizerLocal.{local_from, local_to, local_positions}
 use Rattle.rules.proofs.MinimizerSteps.{minimizer_most}
 use Rattle.keys.specs.Lists.{below}
 use Rattle.sweep.specs.Work.{Fits}

@@ -1,7 +1,6 @@
 -- The whole call: a fine verdict tells all that the answer asks, and the answer with cleared lists, or a refusal with lists as they were, is the promise of the rules.
 -- Assumes nothing.
 use mathlib.Core.Path.{◌≡◌, refl, sym, ap, ◌∙◌, subst}
-use mathlib.Core.Bool.{true}
 use mathlib.Core.List.{List, ◌++◌}
 use Prim.Native.Nat.{ℕ, ◌+◌}
 use native.Mathlib.Omega.{arith}

@@ -12,7 +12,6 @@ use lib.Seq.{take_all, get_or-take, get_or-drop}
 use borrow.Author.Tests.{eqb-true}
 use Rattle.base.specs.Lists.{All, Asc}
 use Rattle.base.specs.OrderChecks.{order_of}
-use Rattle.base.specs.declared.Stats.{Stats}
 use Rattle.base.proofs.Buffers.{zeroed_kept}
 use Rattle.base.proofs.Lists.{all_map, asc_at, asc_steps}
 use Rattle.base.proofs.OrderChecks.{order_strict}
@@ -27,12 +26,11 @@ use Rattle.rules.specs.Calls.{minimizer_premises}
 use Rattle.rules.specs.Accepted.{SweepFits}
 use Rattle.rules.proofs.Score.{member_all, member_union, strict_union, union_left, length_union}
 use Rattle.rules.proofs.Minimizer.{best_by_steps}
-use Rattle.rules.proofs.MinimizerPositions.{positions, lower, lower-le}
+use Rattle.rules.proofs.MinimizerPositions.{positions, lower-le}
 use Rattle.rules.proofs.MinimizerLocal.{items_positions, items_hashes, local_from, local_to, local_positions, local_hashes, local_length}
 use Rattle.keys.specs.Lists.{below}
 use Rattle.keys.proofs.Numbers.{below_number}
 use Rattle.slide_mapper.specs.State.{flags_of}
-use Rattle.sweep.specs.Active.{asked}
 use Rattle.sweep.specs.Beginning.{Clear, Begins}
 use Rattle.sweep.specs.declared.Begun.{Begun}
 use Rattle.sweep.proofs.Numbers.{all_numbers}

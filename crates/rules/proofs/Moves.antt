@@ -1,7 +1,7 @@
 -- The Rust's `insert_ref` and `delete_ref`, as `insert_ref` and `delete_ref`, keep the union's k-th smallest as the pivot and the shared count through it:
 -- each of their branches is one of the four kinds of step in proofs/Ranks, and the neighbour that a step looks for is there.
 use mathlib.Core.Path.{◌≡◌, refl, sym, ap, ◌∙◌, subst}
-use mathlib.Core.Logic.{◌⊎◌, inl, inr, ⊎_elim, ◌≢◌}
+use mathlib.Core.Logic.{⊎_elim}
 use mathlib.Core.Bool.{Bool, true, false, ◌&&◌, ◌||◌}
 use mathlib.Core.List.{List}
 use Prim.Native.Nat.{ℕ, zero, suc, ◌+◌, ◌-◌, ◌≤◌, ◌<◌, min, max}
@@ -12,8 +12,8 @@ use lib.ListN.{length, get_or, set, length-set, get_or-eq_default}
 use lib.Seq.{get_or-set_same, get_or-set_other, set-get_or}
 use borrow.Author.Tests.{ltb-true, ltb-false, leb-true, leb-false, eqb-true, eqb-false}
 use Rattle.base.specs.Pick.{pick}
-use Rattle.base.specs.Nearest.{LastBelow, NoneBelow, FirstFrom, NoneFrom}
-use Rattle.base.specs.Counting.{count, Same, Bump}
+use Rattle.base.specs.Nearest.{LastBelow, NoneBelow, FirstFrom}
+use Rattle.base.specs.Counting.{Same, Bump}
 use Rattle.base.proofs.Checks.{pick-le}
 use Rattle.base.proofs.Order.{lt_or_ge}
 use Rattle.base.proofs.Nearest.{last_same, first_same}

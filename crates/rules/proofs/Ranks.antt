@@ -1,8 +1,8 @@
 -- The four kinds of step keep the pivot and the shared count: a query hash comes or goes (the union stays, the pivot stays), or another hash comes or
 -- goes (the shared hashes stay; beyond the pivot nothing moves, at or before it the pivot moves to its nearest neighbour in the union).
-use mathlib.Core.Path.{◌≡◌, refl, sym, ap, ◌∙◌, subst}
-use mathlib.Core.Logic.{◌⊎◌, inl, inr, ⊎_elim, ◌≢◌}
-use Prim.Native.Nat.{ℕ, zero, suc, ◌+◌, ◌-◌, ◌≤◌, ◌<◌, min, max}
+use mathlib.Core.Path.{◌≡◌, sym, ap, ◌∙◌}
+use mathlib.Core.Logic.{⊎_elim}
+use Prim.Native.Nat.{ℕ, ◌+◌, ◌-◌, ◌≤◌, ◌<◌}
 use native.Mathlib.Decide.{ℕ_discrete}
 use native.Mathlib.Omega.{arith}
 use native.Mathlib.Nat.{eq-or-lt_of_le}

@@ -1,11 +1,10 @@
 -- A script by the Rust's moves answers what a script by hashes answers: the first state holds the union's k-th smallest, and each move keeps it.
-use mathlib.Core.Path.{◌≡◌, refl, sym, ap, ◌∙◌, subst}
+use mathlib.Core.Path.{◌≡◌, refl, sym, ap, ◌∙◌}
 use mathlib.Core.Bool.{true, or-false}
-use mathlib.Core.List.{List, [], ◌∷◌, ◌++◌, map}
-use Prim.Native.Nat.{ℕ, suc, ◌+◌, ◌-◌, ◌≤◌, ◌<◌, min}
+use mathlib.Core.List.{List, [], ◌∷◌, map}
+use Prim.Native.Nat.{ℕ, suc, ◌+◌, ◌-◌, ◌<◌}
 use native.Mathlib.Nat.{not-suc-le-zero}
 use native.Mathlib.Omega.{arith}
-use lib.Dec.{ltb}
 use lib.ListN.{length, get_or, length-replicate}
 use Rattle.base.specs.Pick.{pick}
 use Rattle.base.specs.Counting.{count}
@@ -13,9 +12,9 @@ use Rattle.base.proofs.Counting.{count-zero, count_none}
 use Rattle.base.proofs.Lists.{zeros_at}
 use Rattle.rules.specs.Lists.{member}
 use Rattle.rules.specs.Score.{union, number_of, pivot_hash}
-use Rattle.rules.specs.Script.{Script, Look, stepped, active, pivot_of, shared_of, look, counts_after, no_counts, looks, last_or}
+use Rattle.rules.specs.Script.{Script, active, pivot_of, look, counts_after, no_counts, looks, last_or}
 use Rattle.rules.specs.Moves.{Slide, marks, begin, moved, moved_by, slide_look, looks_by_moves}
-use Rattle.rules.specs.Ranks.{either, both, PivotAt, mark, has, size, Slid}
+use Rattle.rules.specs.Ranks.{both, mark, has, Slid}
 use Rattle.base.specs.Lists.{All, StrictAsc}
 use Rattle.rules.proofs.Score.{strict_same, strict_union, member_union}
 use Rattle.rules.proofs.Moves.{none_has, moved_slid, moved-counts}

@@ -1,28 +1,27 @@
 -- Pivot and shared count by ranks are those by hashes: where the coordinates rise strictly and hold the query, the elements at the flagged numbers are the hashes
 -- themselves, so that the number p with k − 1 flagged numbers before it stands for the union's k-th smallest hash, and counting flags through p counts hashes.
 use mathlib.Core.Path.{◌≡◌, refl, sym, ap, ◌∙◌, subst}
-use mathlib.Core.Logic.{◌⊎◌, inl, inr, ⊎_elim, ◌≢◌}
-use mathlib.Core.Bool.{Bool, true, false, ◌&&◌, ◌||◌, false≢true}
+use mathlib.Core.Logic.{◌⊎◌, inl, inr, ⊎_elim}
+use mathlib.Core.Bool.{Bool, true, false, ◌||◌, false≢true}
 use mathlib.Core.List.{List, [], ◌∷◌, ◌++◌, map}
-use Prim.Native.Nat.{ℕ, zero, suc, ◌+◌, ◌-◌, ◌≤◌, ◌<◌, min, max}
+use Prim.Native.Nat.{ℕ, zero, suc, ◌+◌, ◌-◌, ◌≤◌, ◌<◌}
 use native.Mathlib.Nat.{le_of_suc-le-suc, not-suc-le-zero}
 use native.Mathlib.Numerals.{add-one}
 use native.Mathlib.Omega.{arith}
-use lib.Dec.{ltb, leb, eqb}
-use lib.ListN.{length, get_or, take, replicate, length-map, length-take}
-use lib.Seq.{get_or-take}
-use borrow.Author.Tests.{ltb-true, ltb-false, eqb-true, eqb-false, eq-eqb, ne_eqb}
+use lib.Dec.{ltb, eqb}
+use lib.ListN.{length, get_or, take, length-map}
+use borrow.Author.Tests.{eq-eqb, ne_eqb}
 use Rattle.base.specs.Pick.{pick}
 use Rattle.base.specs.Counting.{count}
 use Rattle.base.proofs.Order.{lt_or_ge}
-use Rattle.base.proofs.Counting.{count-zero, count_next, count_below, count_none, count-le, count_up}
+use Rattle.base.proofs.Counting.{count-zero, count_next, count_below, count_none, count-le}
 use Rattle.rules.specs.Lists.{member}
 use Rattle.rules.specs.Lists.{count as howMany}
 use Rattle.rules.specs.Score.{union, in_both, score, number_of, pivot_hash}
 use Rattle.rules.specs.Script.{active, pivot_of, shared_of}
 use Rattle.rules.specs.Moves.{is_active, marks}
 use Rattle.rules.proofs.Moves.{or_bit, and_bit, active_bit, mark_past, has_past, mark-le, has-le}
-use Rattle.rules.specs.Ranks.{either, both, PivotAt, mark, has, size, Slid}
+use Rattle.rules.specs.Ranks.{either, both, PivotAt, mark, has, size}
 use Rattle.base.specs.Lists.{StrictAsc}
 use Rattle.base.proofs.Lists.{strict_at, map_at}
 use Rattle.rules.proofs.Score.{all_member, member_all, strict_same, strict_union, member_union, at_number, number_fits, number_at, below_all, shared_score}

@@ -1,9 +1,8 @@
 -- The state before the first item: once the query's bits are stored, a word at a time, the union is the query, and its last bit has all the others before it.
-use mathlib.Core.Path.{◌≡◌, refl, sym, ap, ◌∙◌, subst}
+use mathlib.Core.Path.{◌≡◌, refl, sym, ap, ◌∙◌}
 use mathlib.Core.Logic.{⊎_elim, ◌≢◌}
 use mathlib.Core.List.{List}
-use Prim.Native.Nat.{ℕ, zero, suc, ◌+◌, ◌-◌, ◌*◌, ◌/◌, ◌%◌, ◌^◌, ◌≤◌, ◌<◌, min, max}
-use native.Mathlib.Nat.{zero-mul}
+use Prim.Native.Nat.{ℕ, ◌+◌, ◌-◌, ◌*◌, ◌/◌, ◌%◌, ◌^◌, ◌≤◌, ◌<◌, min}
 use native.Mathlib.Omega.{arith}
 use lib.Bits.{bit_or}
 use lib.Dec.{eqb}
@@ -15,14 +14,13 @@ use Rattle.base.specs.Counting.{count}
 use Rattle.base.proofs.Lists.{zeros_at}
 use Rattle.base.proofs.Order.{lt_or_ge, eq_or_ne}
 use Rattle.base.proofs.Counting.{count-zero, count_next, count_same, count_none}
-use Rattle.rules.specs.Ranks.{either, both, mark, has, size, PivotAt, Slid}
+use Rattle.rules.specs.Ranks.{either, both, mark, has, size}
 use Rattle.summary_bits.specs.Bits.{bit, bit_at, with_on}
 use Rattle.summary_bits.specs.Summary.{Fits, Summary}
 use Rattle.summary_bits.proofs.Number.{bit-zero, bit_of_zero, bit_or_lem, bit-mod, bit_shl, bit_shl_low, bit_above}
 use Rattle.summary_bits.proofs.Words.{bit_at-zero, no_bits}
 use Rattle.summary_bits.proofs.Stored.{stored_here, stored_elsewhere, stored_length, stored_summary}
-use Rattle.slide_mapper.specs.declared.Slide.{Slide}
-use Rattle.slide_mapper.specs.State.{flags_of, counts_of, slide_of, Gathered, Held, Ready, Blank}
+use Rattle.slide_mapper.specs.State.{flags_of, counts_of, slide_of, Gathered, Ready, Blank}
 use Rattle.slide_mapper.proofs.State.{mark_at, has_at, counts_length, flags_length}
 
 -- ---- one word

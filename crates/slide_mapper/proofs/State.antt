@@ -1,20 +1,20 @@
 -- The laws of the state: how a count word reads, and that each case of a move on the lists is the case of the rules' move, with the bits
 -- kept. The nearest set bit is the neighbour that the rules look for, since both are the only one.
 use mathlib.Core.Path.{◌≡◌, refl, sym, ap, ◌∙◌, subst}
-use mathlib.Core.Logic.{◌⊎◌, inl, inr, ⊎_elim, ◌≢◌}
+use mathlib.Core.Logic.{⊎_elim, ◌≢◌}
 use mathlib.Core.Bool.{Bool, true, false}
 use mathlib.Core.List.{List, [], ◌∷◌, map}
 use Prim.Native.Nat.{ℕ, zero, suc, ◌+◌, ◌-◌, ◌*◌, ◌/◌, ◌%◌, ◌^◌, ◌≤◌, ◌<◌, min, max}
 use native.Mathlib.Decide.{ℕ_discrete}
 use native.Mathlib.Omega.{arith}
-use lib.Dec.{ltb, leb, eqb}
-use lib.ListN.{length, get_or, set, length-set, length-map, get_or-map, get_or-eq_default}
+use lib.Dec.{ltb, eqb}
+use lib.ListN.{length, get_or, set, length-set, length-map, get_or-map}
 use lib.Seq.{get_or-set_same, get_or-set_other, map-set_same, set-get_or}
 use borrow.Author.Tests.{eq-eqb, ne_eqb, eqb-true, eqb-false, lt-ltb, le-ltb}
 use Rattle.base.specs.Pick.{pick}
 use Rattle.base.specs.Lists.{hit}
 use Rattle.base.specs.Nearest.{LastBelow, NoneBelow, FirstFrom, NoneFrom}
-use Rattle.base.specs.Counting.{Same, Bump}
+use Rattle.base.specs.Counting.{Same}
 use Rattle.base.proofs.Lists.{hit_same, hit_other}
 use Rattle.base.proofs.Order.{lt_or_ge}
 use Rattle.base.proofs.Counting.{count_most, count_up, count_next}
@@ -22,7 +22,7 @@ use Rattle.base.proofs.Nearest.{last_unique, last_not_none, last_same, first_uni
 use Rattle.rules.specs.Moves.{insert_ref, delete_ref, in_query, in_union, is_shared, before, after}
 use Rattle.rules.specs.Moves as moves
 use Rattle.rules.specs.Ranks.{either, both, mark, has, Slid}
-use Rattle.rules.proofs.Moves.{union_bit, shared_bit_lem, before_last, after_first, raise, lower, level, mark_past, has_past, mark-le, has-le, pivot_in, insert_slid, delete_slid, insert_some, insert_lost, delete_some}
+use Rattle.rules.proofs.Moves.{union_bit, shared_bit_lem, before_last, after_first, mark_past, has_past, mark-le, pivot_in, insert_slid, delete_slid, insert_some, insert_lost, delete_some}
 use Rattle.rules.proofs.MoveCases.{state, insert_again, insert_query_low, insert_query_high, insert_other_low, insert_other_high, delete_none, delete_again, delete_query_low, delete_query_high, delete_other_low, delete_other_high}
 use Rattle.summary_bits.specs.Bits.{bit_at, with_on, with_off}
 use Rattle.summary_bits.specs.Summary.{Fits, Summary, raised, lowered}

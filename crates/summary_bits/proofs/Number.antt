@@ -1,7 +1,7 @@
 -- The bits of one number: under or, and, not and the shifts, the highest and the lowest set bit, and that a number is its bits.
 -- Each goes by halving: bit k + 1 of x is bit k of x / 2.
 use mathlib.Core.Path.{◌≡◌, refl, sym, ap, ap₂, ◌∙◌, subst}
-use mathlib.Core.Logic.{◌⊎◌, ⊎_elim, ◌≢◌}
+use mathlib.Core.Logic.{⊎_elim, ◌≢◌}
 use Prim.Native.Nat.{ℕ, zero, suc, ◌+◌, ◌-◌, ◌*◌, ◌/◌, ◌%◌, ◌^◌, ◌≤◌, ◌<◌, min, max}
 use native.Mathlib.Nat.{mod-lt, zero-div, div-one, div_self, div-eq_of_lt, div-eq_of_lt-le, lt_of_lt_of_le, zero-max, zero-min, pow-suc, div-div-eq-div-mul, mul_comm, mul-one, one-mul, div-le_self, suc-add, zero-add, zero-lt-suc}
 use native.Mathlib.Omega.{arith}

@@ -1,7 +1,7 @@
 -- The bits of a list of words: after a bit is set or cleared only that bit differs, and a list of words is its bits. Each holds because
 -- bit i of the list is bit i % 64 of word i / 64, so that the laws of one number carry over.
 use mathlib.Core.Path.{◌≡◌, sym, ap, ap₂, ◌∙◌}
-use mathlib.Core.Logic.{◌⊎◌, ⊎_elim, ◌≢◌}
+use mathlib.Core.Logic.{⊎_elim, ◌≢◌}
 use mathlib.Core.List.{List}
 use Prim.Native.Nat.{ℕ, ◌+◌, ◌*◌, ◌/◌, ◌%◌, ◌^◌, ◌≤◌, ◌<◌}
 use native.Mathlib.Omega.{arith}

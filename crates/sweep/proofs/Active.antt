@@ -1,17 +1,17 @@
 -- Where the count words count the active numbers, the shared count is the score of query and active numbers, since the pivot is the union's k-th smallest;
 -- and a move makes them count one number more or one less. Assumes nothing.
-use mathlib.Core.Path.{◌≡◌, refl, sym, ap, ◌∙◌, subst}
-use mathlib.Core.Logic.{◌⊎◌, ⊎_elim, ◌≢◌}
+use mathlib.Core.Path.{◌≡◌, sym, ap, ◌∙◌, subst}
+use mathlib.Core.Logic.{⊎_elim, ◌≢◌}
 use mathlib.Core.Bool.{Bool, true, false, ◌&&◌, and-true, and-false}
-use mathlib.Core.List.{List, [], ◌∷◌, ◌++◌, map}
-use Prim.Native.Nat.{ℕ, zero, suc, ◌+◌, ◌-◌, ◌/◌, ◌%◌, ◌≤◌, ◌<◌}
+use mathlib.Core.List.{List, [], ◌∷◌, map}
+use Prim.Native.Nat.{ℕ, ◌+◌, ◌-◌, ◌/◌, ◌≤◌, ◌<◌}
 use native.Mathlib.Omega.{arith}
-use lib.Dec.{ltb, eqb}
+use lib.Dec.{ltb}
 use lib.ListN.{length, get_or, set, length-map, get_or-map, get_or-eq_default}
 use lib.Seq.{ext_get_or, get_or-set_same, get_or-set_other}
 use Rattle.base.specs.Lists.{StrictAsc, hit, times}
 use Rattle.base.proofs.Order.{lt_or_ge, eq_or_ne}
-use Rattle.base.proofs.Lists.{hit_same, hit_other, hit-le, times-append}
+use Rattle.base.proofs.Lists.{hit_same, hit_other, hit-le}
 use Rattle.rules.specs.Lists.{member, up_from}
 use Rattle.rules.specs.Score.{number_of, score}
 use Rattle.rules.specs.Script.{active}
@@ -20,10 +20,10 @@ use Rattle.rules.specs.Ranks.{either, both, mark, has, size, PivotAt}
 use Rattle.rules.proofs.Score.{cases, member_filter, member-times, strict_filter, member-active, score_same}
 use Rattle.rules.proofs.Slide.{score_is}
 use Rattle.slide_mapper.specs.declared.Slide.{Slide}
-use Rattle.slide_mapper.specs.State.{flags_of, counts_of, slide_of, Ready, Inserted, Deleted}
-use Rattle.slide_mapper.proofs.State.{counts_at, counts_length, counts_set, flags_at, flags_length, flags_set, ready_inserted, ready_deleted}
+use Rattle.slide_mapper.specs.State.{flags_of, counts_of, slide_of, Inserted, Deleted}
+use Rattle.slide_mapper.proofs.State.{counts_at, counts_length, counts_set, flags_length, flags_set, ready_inserted, ready_deleted}
 use Rattle.sweep.specs.Active.{asked, Active}
-use Rattle.sweep.proofs.Upto.{up_length, up_at, strict_up, up_in, in_up, up_out, up_number}
+use Rattle.sweep.proofs.Upto.{up_length, up_at, strict_up, up_in, up_out, up_number}
 
 -- ---- the query as numbers
 

@@ -3,18 +3,17 @@
 use mathlib.Core.Path.{◌≡◌, refl, sym, ap, ◌∙◌, subst}
 use mathlib.Core.Bool.{Bool, false}
 use mathlib.Core.List.{List, [], ◌∷◌, ◌++◌, map, map-append}
-use Prim.Native.Nat.{ℕ, zero, suc, ◌+◌, ◌-◌, ◌%◌, ◌≤◌, ◌<◌}
+use Prim.Native.Nat.{ℕ, zero, suc, ◌+◌, ◌-◌, ◌%◌, ◌≤◌}
 use native.Mathlib.Omega.{arith}
 use lib.Dec.{eqb}
 use lib.ListN.{length, get_or, drop, replicate, length-map, length-append, length-replicate, get_or-append}
 use lib.Seq.{drop-append_seam}
 use Rattle.base.specs.Pick.{pick}
-use Rattle.base.specs.Lists.{StrictAsc, All, times}
-use Rattle.base.specs.Counting.{count}
+use Rattle.base.specs.Lists.{times}
 use Rattle.base.specs.Buffers.{over}
 use Rattle.base.proofs.Checks.{pick-le}
 use Rattle.base.proofs.Counting.{count_below, count_up}
-use Rattle.base.proofs.Lists.{all_map, zeros_at}
+use Rattle.base.proofs.Lists.{zeros_at}
 use Rattle.rules.specs.Lists.{member}
 use Rattle.rules.specs.Checks.{ceil64}
 use Rattle.rules.specs.Score.{union, number_of}
@@ -25,11 +24,11 @@ use Rattle.rules.proofs.Slide.{size_query}
 use Rattle.summary_bits.proofs.Words.{clear_bits}
 use Rattle.summary_bits.proofs.Kept.{clear_summary}
 use Rattle.slide_mapper.specs.declared.Slide.{Slide}
-use Rattle.slide_mapper.specs.State.{flags_of, counts_of, Blank, Ready}
+use Rattle.slide_mapper.specs.State.{flags_of, Blank, Ready}
 use Rattle.slide_mapper.proofs.State.{counts_at}
 use Rattle.slide_mapper.proofs.Marked.{ones_flags}
 use Rattle.coordinates.specs.Coordinates.{flags, numbers, Asked, Answered}
-use Rattle.sweep.specs.Active.{asked, Active}
+use Rattle.sweep.specs.Active.{asked}
 use Rattle.sweep.specs.Beginning.{Exact, Clear, Given, Begins}
 use Rattle.sweep.specs.declared.Begun.{Begun}
 use Rattle.sweep.proofs.Numbers.{asked_more}

@@ -4,7 +4,6 @@ use Rattle.base.specs.declared.Verdict.TheVariants.{Fine}
 use Rattle.rules.specs.Job as rules
 use Rattle.job_fields.specs.Judge.{verdict_of}
 use Rattle.job.proofs.Reading.{refused_promise, is_accepted, read_promise}
-use borrow.Author.Rules.{rules}
 use Rattle.job.proofs.read.Goals as goal
 
 pub returns-in-No : goal.returns-in-No

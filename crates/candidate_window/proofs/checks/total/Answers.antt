@@ -1,6 +1,5 @@
 -- `total` adds each group to the sum of those before it, which is at most 2^32 for each of them.
 use native.Mathlib.Omega.{arith}
-use Rattle.rules.specs.Lists as lists
 use Rattle.rules.proofs.FinderKept.{sum_next, sum_end}
 use Rattle.candidate_window.proofs.checks.total.Goals as goal
 

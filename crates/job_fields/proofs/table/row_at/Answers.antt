@@ -1,7 +1,6 @@
 -- `row_at` answers the rules' row: the constant table, row by row, is the rules'.
 use mathlib.Core.Path.{sym}
 use mathlib.Core.List.{map}
-use borrow.Author.Rules.{rules}
 use lib.ListN.{get_or-map}
 use Rattle.rules.specs.Job.{FieldRow, field_table}
 use Rattle.job_fields.specs.Table.{rule_of, no_rule}
