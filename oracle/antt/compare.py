@@ -12,20 +12,19 @@ from collections import Counter
 import vectors
 import workspace
 
-USES = """use mathlib.Core.Bool.{true, false}
-use mathlib.Core.Path.{_≡_, refl}
-use mathlib.Core.List.{[], _∷_}
-use lib.Ieee.{binary64, ofBits}
-use Rattle·rules.specs.Text.{text}
-use Rattle·rules.specs.Script.{looks}
-use Rattle·rules.specs.Moves.{looksByMoves}
-use Rattle·rules.specs.Place.{minimizerByScoring, intervalByScoring}
-use Rattle·rules.specs.Finder.{minimizerFound, intervalFound}
-use Rattle·rules.specs.Refusals.{minimizerCall, intervalCall, scriptCall, minimizerFinderCall, intervalFinderCall}
-use Rattle·rules.specs.Lines.{said}
-use Rattle·rules.specs.Told.{toldRefused, toldDone, toldSweep, toldScript, toldFinder, toldLooks, toldCandidates}
-use Rattle·rules.specs.Calls.{minimizerPremises, intervalPremises}
-use Rattle·rules.specs.Computes.{computes}
+USES = """use Rattle.std.specs.Prelude.{◌≡◌, refl, true, false, [], ◌∷◌}
+use Rattle.std.specs.Float.{binary64}
+use Rattle.std.specs.Float.Ieee.{of_bits}
+use Rattle.rules.specs.Text.{text}
+use Rattle.rules.specs.Script.{looks}
+use Rattle.rules.specs.Moves.{looks_by_moves}
+use Rattle.rules.specs.Place.{minimizer_by_scoring, interval_by_scoring}
+use Rattle.rules.specs.Finder.{minimizer_found, interval_found}
+use Rattle.rules.specs.Refusals.{minimizer_call, interval_call, script_call, minimizer_finder_call, interval_finder_call}
+use Rattle.rules.specs.Lines.{said}
+use Rattle.rules.specs.Told.{told_refused, told_done, told_sweep, told_script, told_finder, told_looks, told_candidates}
+use Rattle.rules.specs.Calls.{minimizer_premises, interval_premises}
+use Rattle.rules.specs.Computes.{computes}
 
 """
 IN_ONE_FILE = 250
@@ -65,17 +64,17 @@ def main():
     rows = list(source)
     top = workspace.copy("compare", tables=False)
     lay_out(top, rows)
-    proved, said = workspace.check(top)
+    status, said = workspace.check(top, "rows")
     wrong = set(re.findall(r"error: `([a-z]+[0-9]+)`", said))
     of_all, of_wrong = Counter(kind(name) for name, _, _ in rows), Counter(map(kind, wrong))
     for name in of_all:
         print("%-22s %5d rows, %d wrong" % (name, of_all[name], of_wrong[name]))
     for name in sorted(wrong):
         print("WRONG", name)
-    if not proved and not wrong:
+    if status and not wrong:
         print(said[-3000:])
-    print("%d rows, %d wrong" % (len(rows), len(wrong)) if proved or wrong else "the checker did not get to the rows")
-    sys.exit(0 if proved else 1)
+    print("%d rows, %d wrong" % (len(rows), len(wrong)) if not status or wrong else "the checker did not get to the rows")
+    sys.exit(1 if status else 0)
 
 
 if __name__ == "__main__":

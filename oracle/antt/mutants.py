@@ -1,7 +1,9 @@
 #!/usr/bin/env python3
 """mutants.py [FROM [TO]]: puts each small wrong definition of mutants.txt into crate rules, one at a time, and says which of them no table refuses.
-A line of mutants.txt is `FILE ⇒ TEXT ⇒ WRONG TEXT`; the text stands once in specs/FILE.antt. FROM and TO choose lines by number."""
+A line of mutants.txt is `FILE ⇒ TEXT ⇒ WRONG TEXT`; the text stands once in specs/FILE.antt. FROM and TO choose lines by number.
+A table refuses where the checker finds fault with the `refl` of its claims alone: a wrong text that does not check is no refusal."""
 import os
+import re
 import sys
 
 import workspace
@@ -16,6 +18,28 @@ def mutants():
     return [line.split(" ⇒ ") for line in lines if line and not line.startswith("#")]
 
 
+def errors(said):
+    return [line for line in said.split("\n") if re.match(r"(\S+ )?error\b", line)]
+
+
+def first_error(said):
+    return (errors(said) or [said[-400:]])[0][:400]
+
+
+def claims_refused(top, said):
+    """The claims of tables that the checker refuses, as TABLE.CLAIM; None if it finds fault with anything else."""
+    found = []
+    for line in errors(said):
+        at = re.match(r"\./specs/(\w+)\.antt:(\d+):\d+: error: `(\w+)`: ", line)
+        if not at or at[1] not in workspace.TABLES:
+            return None
+        table = open(os.path.join(top, "crates", "rules", "specs", at[1] + ".antt"), encoding="utf-8").read().split("\n")
+        if table[int(at[2]) - 1] != at[3] + " = refl":
+            return None
+        found.append(f"{at[1]}.{at[3]}")
+    return found
+
+
 def verdict(top, file, old, new):
     workspace.keep(top, "JobEdges", file in OF_JOBS)
     path = os.path.join(top, "crates", "rules", "specs", file + ".antt")
@@ -23,13 +47,13 @@ def verdict(top, file, old, new):
     if text.count(old) != 1:
         return "BAD: the text stands %d times" % text.count(old)
     workspace.write(os.path.dirname(path), file + ".antt", text.replace(old, new))
-    proved, said = workspace.check(top)
+    status, said = workspace.check(top, "rules")
     workspace.write(os.path.dirname(path), file + ".antt", text)
-    if proved:
+    if status == 0:
         return "LIVES"
-    refused = [table for table in workspace.TABLES if f"specs/{table}.antt:" in said and "error" in said]
-    if f"specs/{file}.antt:" in said or not refused:
-        return "BAD: refused, but by no row: " + said[-400:]
+    refused = claims_refused(top, said)
+    if status != 1 or not refused:
+        return "BAD: refused, but by no row: " + first_error(said)
     return "refused by " + ", ".join(refused)
 
 
@@ -38,9 +62,9 @@ def main():
     first = int(sys.argv[1]) if len(sys.argv) > 1 else 0
     last = int(sys.argv[2]) if len(sys.argv) > 2 else len(chosen)
     top = workspace.copy("mutants%d" % first, tables=True)
-    proved, said = workspace.check(top)
-    if not proved:
-        sys.exit("the definitions are not proved as they stand: " + said[-400:])
+    status, said = workspace.check(top, "rules")
+    if status:
+        sys.exit("the definitions are not proved as they stand: " + first_error(said))
     living = 0
     for number, (file, old, new) in list(enumerate(chosen))[first:last]:
         found = verdict(top, file, old, new)

@@ -24,18 +24,18 @@ def declared(folder, module):
 
 def main():
     texts = [open(os.path.join(SPECS, m + ".antt"), encoding="utf-8").read() for m in modules(SPECS) if m not in LEFT_OUT]
-    cited = sorted(set(re.findall(r"^use Rattle·base\.specs\.([A-Z]\w*)\.\{", "\n".join(texts), re.M)))
-    from_base = [(f"Rattle·base.specs.{m}", declared(BASE, m)) for m in cited if m != "declared"]
-    from_rules = [(f"Rattle·rules·specs.specs.{m}", declared(SPECS, m)) for m in modules(SPECS) if m not in LEFT_OUT]
+    cited = sorted(set(re.findall(r"^use Rattle\.base\.specs\.([A-Z]\w*)\.\{", "\n".join(texts), re.M)))
+    from_base = [(f"Rattle.base.specs.{m}", declared(BASE, m)) for m in cited if m != "declared"]
+    from_rules = [(f"Rattle.rules.specs.{m}", declared(SPECS, m)) for m in modules(SPECS) if m not in LEFT_OUT]
     used = [(m, names) for m, names in from_base + from_rules if names]
     lines = [
         "-- All definitions by which a row computes, named once: a proof by computing says `unfolding computes`. Written by oracle/antt/unfolding.py.",
-        "use Prim.Native.Nat.{ℕ}",
+        "use Rattle.std.specs.Prelude.{ℕ}",
         "use mathlib.Core.List.{flatten}",
-        "use lib.Ieee.{ofBits, lt}",
+        "use Rattle.std.specs.Float.Ieee.{of_bits, lt}",
     ]
     lines += ["use %s.{%s}" % (m, ", ".join(names)) for m, names in used]
-    lines += ["", "unfoldable pub computes : ℕ", "unfolding flatten ofBits lt"]
+    lines += ["", "unfoldable pub computes : ℕ", "unfolding flatten of_bits lt"]
     lines += ["    " + " ".join(names) for _, names in used]
     lines += ["computes = 0", ""]
     with open(os.path.join(SPECS, "Computes.antt"), "w", encoding="utf-8") as out:

@@ -34,15 +34,15 @@ def lst(entries):
 
 
 def floats(entries):
-    return lst("ofBits binary64 %d" % e for e in entries)
+    return lst("of_bits binary64 %d" % e for e in entries)
 
 
 def refused(number, place):
-    return "toldRefused (record { number = %d; place = %d })" % (number, place)
+    return "told_refused (record { number = %d; place = %d })" % (number, place)
 
 
 def done(values, estimate=()):
-    return "toldDone %s %s" % (lst(values), floats(estimate))
+    return "told_done %s %s" % (lst(values), floats(estimate))
 
 
 def script(record):
@@ -55,12 +55,12 @@ def script(record):
         return
     s = "(record { query = %s; coords = %s; indexes = %s; kinds = %s })" % tuple(map(lst, (query, coords, indexes, kinds)))
     room = "(record { counts = %d; words = %d; summary = %d; pivots = %d; shareds = %d })" % (counts, words, summary, pivots, shareds)
-    yield "scriptcall", f"toldScript (scriptCall {s} {room})", refused(number, place) if number else done([last_pivot, last_shared])
+    yield "scriptcall", f"told_script (script_call {s} {room})", refused(number, place) if number else done([last_pivot, last_shared])
     if not number:
         steps = len(indexes)
         looks = [x for pair in zip(w.take(steps), w.take(steps)) for x in pair]
-        yield "script", f"toldLooks (looks {s})", lst(looks)
-        yield "moves", f"toldLooks (looksByMoves {s})", lst(looks)
+        yield "script", f"told_looks (looks {s})", lst(looks)
+        yield "moves", f"told_looks (looks_by_moves {s})", lst(looks)
 
 
 def sweep(mode, record):
@@ -75,15 +75,15 @@ def sweep(mode, record):
         return
     s = (
         "(record { query = %s; hashes = %s; starts = %s; ends = %s; settings = record { kmer = %d; length = %d }; window = %d; "
-        "range = record { start = %d; end = %d }; identities = %s; uppers = %s; minimum = ofBits binary64 %d })"
+        "range = record { start = %d; end = %d }; identities = %s; uppers = %s; minimum = of_bits binary64 %d })"
         % (lst(query), lst(hashes), lst(starts), lst(ends), kmer, length, window, start, end, floats(identities), floats(uppers), minimum)
     )
     room = "(record { hashes = %d; counts = %d; coords = %d; words = %d; summary = %d })" % (hashes_room, counts, coords, words, summary)
     room += " %d" % keys if mode == "interval" else ""
     answer = done(values + stats, estimate) if placed else done(stats)
-    yield mode + "call", f"toldSweep ({mode}Call {s} {room})", refused(number, place) if number else answer
+    yield mode + "call", f"told_sweep ({mode}_call {s} {room})", refused(number, place) if number else answer
     if not number and inside(mode, kmer, window, length, start, end, query, starts, ends) and max(end - start, 0) < WIDEST:
-        yield mode + "scoring", f"toldSweep ({mode}ByScoring {s})", answer
+        yield mode + "scoring", f"told_sweep ({mode}_by_scoring {s})", answer
 
 
 def inside(mode, kmer, window, length, start, end, query, starts, ends):
@@ -106,10 +106,10 @@ def finder(mode, record):
         lst(contigs), lst(starts), lst(ends), lst(groups), threshold, minimum, length)
     room = "(record { keys = %d; contigs = %d; starts = %d; ends = %d })" % (keys, contigs_room, starts_room, ends_room)
     room += " %d" % end_keys if mode == "interval" else ""
-    yield mode + "findercall", f"toldFinder ({mode}FinderCall {f} {room})", refused(number, place) if number else done([count, seeds])
+    yield mode + "findercall", f"told_finder ({mode}_finder_call {f} {room})", refused(number, place) if number else done([count, seeds])
     if not number:
         found = [x for three in zip(w.take(count), w.take(count), w.take(count)) for x in three]
-        yield mode + "found", f"toldCandidates ({mode}Found {f})", lst(found)
+        yield mode + "found", f"told_candidates ({mode}_found {f})", lst(found)
 
 
 def job(record):

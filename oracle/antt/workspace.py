@@ -9,12 +9,17 @@ TABLES = ("Examples", "Edges", "JobEdges")
 
 
 def copy(name, tables):
-    """A fresh workspace of that name: the specs alone of rules (its laws are not asked here), with its tables or without."""
+    """A fresh workspace of that name: the specs alone of rules (its laws are not asked here), with its tables or without.
+    Only what the checker kept of earlier runs, in each crate's out/, stays."""
     top = os.path.join(TARGET, name)
-    shutil.rmtree(os.path.join(top, "crates"), ignore_errors=True)
+    crates = os.path.join(top, "crates")
+    for crate in os.listdir(crates) if os.path.isdir(crates) else []:
+        for part in os.listdir(os.path.join(crates, crate)):
+            if part != "out":
+                shutil.rmtree(os.path.join(crates, crate, part))
     for crate in ("base", "rules"):
-        left_out = shutil.ignore_patterns("must-fail", "proofs") if crate == "rules" else shutil.ignore_patterns("must-fail")
-        shutil.copytree(os.path.join(TOP, "crates", crate), os.path.join(top, "crates", crate), ignore=left_out)
+        left_out = shutil.ignore_patterns("must-fail", "out", *["proofs"] * (crate == "rules"))
+        shutil.copytree(os.path.join(TOP, "crates", crate), os.path.join(crates, crate), ignore=left_out, dirs_exist_ok=True)
     write(top, "crates.txt", "base:\nrules: base\n")
     for table in TABLES:
         keep(top, table, tables)
@@ -41,12 +46,7 @@ def write(folder, name, text):
         out.write(text)
 
 
-def check(top):
-    """Whether all is proved, and all that the checker said."""
-    environment = dict(os.environ, RT_JOBS="1")
-    done = subprocess.run(["rt", "check"], cwd=top, capture_output=True, text=True, env=environment)
-    said = done.stdout + done.stderr
-    log = os.path.join(top, "target", "log")
-    for name in sorted(os.listdir(log)) if os.path.isdir(log) else []:
-        said += open(os.path.join(log, name), encoding="utf-8", errors="replace").read()
-    return done.returncode == 0, said
+def check(top, crate):
+    """Checks a crate over those below it: the status of `rt check` (0 proved, 1 refused, else not judged), and all that it said."""
+    done = subprocess.run(["rt", "check"], cwd=os.path.join(top, "crates", crate), capture_output=True, text=True)
+    return done.returncode, done.stdout + done.stderr

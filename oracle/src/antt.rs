@@ -106,7 +106,7 @@ fn script_rows(call: &ScriptCall) -> Option<Vec<Row>> {
     let whole = |wanted| {
         row(
             "scriptcall",
-            format!("toldScript (scriptCall {s} {room})"),
+            format!("told_script (script_call {s} {room})"),
             wanted,
         )
     };
@@ -127,10 +127,10 @@ fn script_rows(call: &ScriptCall) -> Option<Vec<Row>> {
         .flat_map(|(&pivot, &shared)| [pivot, shared])
         .collect();
     Some(vec![
-        row("script", format!("toldLooks (looks {s})"), list(&looks)),
+        row("script", format!("told_looks (looks {s})"), list(&looks)),
         row(
             "moves",
-            format!("toldLooks (looksByMoves {s})"),
+            format!("told_looks (looks_by_moves {s})"),
             list(&looks),
         ),
         whole(done(&[last.0, last.1], &[])),
@@ -150,7 +150,7 @@ fn sweep_rows(call: &SweepCall) -> Option<Vec<Row>> {
         extra(call.mode, call.room.events)
     );
     let kind = ["minimizercall", "intervalcall"][call.mode as usize];
-    let whole = |wanted| row(kind, format!("toldSweep ({name}Call {s} {room})"), wanted);
+    let whole = |wanted| row(kind, format!("told_sweep ({name}_call {s} {room})"), wanted);
     if let SweepAnswer::Refused(refusal) = model::sweep(call) {
         return Some(vec![whole(refused(refusal))]);
     }
@@ -158,12 +158,16 @@ fn sweep_rows(call: &SweepCall) -> Option<Vec<Row>> {
     let inside = model::in_premises(call);
     let mut rows = vec![whole(answer.clone())];
     let kind = ["minimizerpremises", "intervalpremises"][call.mode as usize];
-    rows.push(row(kind, format!("{name}Premises {s}"), inside.to_string()));
+    rows.push(row(
+        kind,
+        format!("{name}_premises {s}"),
+        inside.to_string(),
+    ));
     if inside && call.range_end.saturating_sub(call.range_start) < WIDEST {
         let kind = ["minimizerscoring", "intervalscoring"][call.mode as usize];
         rows.push(row(
             kind,
-            format!("toldSweep ({name}ByScoring {s})"),
+            format!("told_sweep ({name}_by_scoring {s})"),
             answer,
         ));
     }
@@ -194,7 +198,7 @@ fn finder_rows(call: &FinderCall) -> Option<Vec<Row>> {
     let whole = |wanted| {
         row(
             kind,
-            format!("toldFinder ({name}FinderCall {f} {room})"),
+            format!("told_finder ({name}_finder_call {f} {room})"),
             wanted,
         )
     };
@@ -213,7 +217,7 @@ fn finder_rows(call: &FinderCall) -> Option<Vec<Row>> {
     Some(vec![
         row(
             kind,
-            format!("toldCandidates ({name}Found {f})"),
+            format!("told_candidates ({name}_found {f})"),
             list(&entries),
         ),
         whole(done(&[ranges.len() as u32, seed_hits], &[])),
@@ -249,7 +253,7 @@ fn list<T: Display>(entries: &[T]) -> String {
 }
 
 fn float(value: f64) -> String {
-    format!("ofBits binary64 {}", value.to_bits())
+    format!("of_bits binary64 {}", value.to_bits())
 }
 
 fn floats(values: &[f64]) -> String {
@@ -258,13 +262,13 @@ fn floats(values: &[f64]) -> String {
 
 fn refused(refusal: Refusal) -> String {
     format!(
-        "toldRefused (record {{ number = {}; place = {} }})",
+        "told_refused (record {{ number = {}; place = {} }})",
         refusal.number, refusal.place
     )
 }
 
 fn done<T: Display>(values: &[T], estimate: &[f64]) -> String {
-    format!("toldDone {} {}", list(values), floats(estimate))
+    format!("told_done {} {}", list(values), floats(estimate))
 }
 
 fn told_sweep(answer: &SweepAnswer) -> String {
