@@ -1,7 +1,7 @@
 #!/usr/bin/env python3
 """compare.py [--most N] [FILE | FOLDER]: lets the checker compute the definitions of crate rules on inputs whose answers are known.
 A FOLDER holds stored vectors (default: crates/replay/data); a FILE holds rows of `oracle antt SEED COUNT`. Each row becomes an
-equation `definition of the input ≡ answer` in a crate below target/antt, closed by `refl`. Says how many rows of each kind held and
+equation `definition of the input ≡ answer` in a crate of a workspace in the folder for temporary files, closed by `refl`. Says how many rows of each kind held and
 which did not. --most: rows of each kind that are taken of stored vectors (default 150)."""
 import argparse
 import os

@@ -11,11 +11,20 @@ import workspace
 HERE = os.path.dirname(os.path.abspath(__file__))
 # The table of jobs is dear, and is asked only where these definitions are wrong.
 OF_JOBS = ("Limits", "Text", "Job", "Lines")
+# Words that a wrong text uses and its file may not, with their names in a `use` line.
+WORDS = {"+": "◌+◌", "true": "true", "false": "false"}
 
 
 def mutants():
     lines = open(os.path.join(HERE, "mutants.txt"), encoding="utf-8").read().split("\n")
     return [line.split(" ⇒ ") for line in lines if line and not line.startswith("#")]
+
+
+def with_words(text, new):
+    """The text of a file, with a `use` line for each word of the library in the wrong text that the file has no use for itself."""
+    brought = {name.strip() for names in re.findall(r"^use .*\{(.*)\}", text, re.M) for name in names.split(",")}
+    wanted = [name for word, name in WORDS.items() if word in re.findall(r"[^\s(){};,]+", new) and name not in brought]
+    return text.replace("\nuse ", "\nuse Rattle.std.specs.Prelude.{%s}\nuse " % ", ".join(wanted), 1) if wanted else text
 
 
 def errors(said):
@@ -46,7 +55,7 @@ def verdict(top, file, old, new):
     text = open(path, encoding="utf-8").read()
     if text.count(old) != 1:
         return "BAD: the text stands %d times" % text.count(old)
-    workspace.write(os.path.dirname(path), file + ".antt", text.replace(old, new))
+    workspace.write(os.path.dirname(path), file + ".antt", with_words(text, new).replace(old, new))
     status, said = workspace.check(top, "rules")
     workspace.write(os.path.dirname(path), file + ".antt", text)
     if status == 0:

@@ -1,17 +1,19 @@
-"""A copy of the crates base and rules below target/, in which the checker computes rows or meets a wrong definition."""
+"""A copy of the crates base and rules, in which the checker computes rows or meets a wrong definition."""
 import os
 import shutil
 import subprocess
+import tempfile
 
 TOP = os.path.dirname(os.path.dirname(os.path.dirname(os.path.abspath(__file__))))
-TARGET = os.path.join(TOP, "target", "antt")
+# Outside the checkout, where rt ci refuses a second crates.txt; each checkout has its own.
+WORKSPACES = os.path.join(tempfile.gettempdir(), "kelonbaro-antt", TOP.strip(os.sep).replace(os.sep, "-"))
 TABLES = ("Examples", "Edges", "JobEdges")
 
 
 def copy(name, tables):
     """A fresh workspace of that name: the specs alone of rules (its laws are not asked here), with its tables or without.
     Only what the checker kept of earlier runs, in each crate's out/, stays."""
-    top = os.path.join(TARGET, name)
+    top = os.path.join(WORKSPACES, name)
     crates = os.path.join(top, "crates")
     for crate in os.listdir(crates) if os.path.isdir(crates) else []:
         for part in os.listdir(os.path.join(crates, crate)):
