@@ -38,7 +38,7 @@ def floats(entries):
 
 
 def refused(number, place):
-    return "told_refused (record { number = %d; place = %d })" % (number, place)
+    return "(record { number = %d; place = %d; values = []; estimate = [] })" % (number, place)
 
 
 def done(values, estimate=()):

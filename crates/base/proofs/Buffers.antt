@@ -6,7 +6,6 @@ use mathlib.Core.List.{List, [], ◌∷◌, ◌++◌, append-nil, map, map-appen
 use native.Mathlib.Nat.{not-suc-le-zero, le_of_suc-le-suc}
 use native.Mathlib.Numerals.{add-one}
 use native.Mathlib.Omega.{arith}
-use borrow.Author.Fill.{fill_none, fill_more}
 use lib.ListN.{length, set, take, drop, get_or, replicate, length-append, length-drop, length-map, length-replicate, get_or-replicate, take-append-drop, get_or-append}
 use lib.Seq.{get_or-append-add, get_or-drop, take_at, drop_at, take-length, drop-length, drop-cons, set-append_seam, append_snoc}
 use Rattle.base.specs.Buffers.{zeroed, over}
@@ -26,13 +25,7 @@ module _ {A : Type 0} (front entry : List A) (n : ℕ) (is : length front ≡ n)
       ap (λ (k : ℕ). get_or (front ++ drop n entry) k d) (sym past) ∙ get_or-append-add front (drop n entry) (i - n) d ∙ get_or-drop n entry (i - n) d
       ∙ ap (λ (k : ℕ). get_or entry k d) back
 
--- Cleared: nothing yet, and one store more.
-
-pub zeroed_none : (entry : List ℕ) → entry ≡ zeroed 0 entry
-zeroed_none entry = fill_none entry 0
-
-pub zeroed_more : (n : ℕ) (entry : List ℕ) → n < length entry → set (zeroed n entry) n 0 ≡ zeroed (n + 1) entry
-zeroed_more n entry h = fill_more n 0 entry h
+-- Cleared.
 
 zeros : (n : ℕ) → length (replicate {A = ℕ} n 0) ≡ n
 zeros n = length-replicate n 0
@@ -56,36 +49,6 @@ module _ (n : ℕ) (entry : List ℕ) where
   -- what was clear stays as it is
   pub zeroed_kept : take n entry ≡ replicate n 0 → zeroed n entry ≡ entry
   zeroed_kept e = ap (λ (l : List ℕ). l ++ drop n entry) (sym e) ∙ take-append-drop n entry
-
--- all of it
-pub zeroed_whole : (entry : List ℕ) → zeroed (length entry) entry ≡ replicate (length entry) 0
-zeroed_whole entry = ap (λ (l : List ℕ). replicate (length entry) 0 ++ l) (drop-length entry) ∙ append-nil (replicate (length entry) 0)
-
--- A loop that clears the first n, in turn i.
-pub record Clearing (entry : List ℕ) (n : ℕ) (now : List ℕ) (i : ℕ) : Type 0 where
-  pub upto : i ≤ n
-  pub room : n ≤ length entry
-  pub is : now ≡ zeroed i entry
-
-module _ {entry : List ℕ} {n : ℕ} where
-  pub clearing_start : n ≤ length entry → Clearing entry n entry 0
-  clearing_start h = record { upto = omega arith; room = h; is = zeroed_none entry }
-
-  module _ {now : List ℕ} {i : ℕ} (c : Clearing entry n now i) where
-    pub clearing_length : length now ≡ length entry
-    clearing_length = ap length c.is ∙ length-zeroed i entry (omega arith)
-
-    pub clearing_step : i < n → Clearing entry n (set now i 0) (i + 1)
-    clearing_step l = record {
-      upto = omega arith;
-      room = c.room;
-      is = ap (λ (l : List ℕ). set l i 0) c.is ∙ zeroed_more i entry (omega arith);
-    }
-
-    pub clearing_end : n ≤ i → now ≡ zeroed n entry
-    clearing_end l =
-        let e : i ≡ n = omega arith in
-        c.is ∙ ap (λ (k : ℕ). zeroed k entry) e
 
 -- Answers over the front.
 module _ {A : Type 0} (answers entry : List A) where
@@ -139,7 +102,3 @@ module _ {A : Type 0} where
     pub over_more : (entry : List A) (y : A) (r : List A) → i < length entry → drop i answers ≡ y ∷ r
         → set (take i answers ++ drop i entry) i y ≡ take (i + 1) answers ++ drop (i + 1) entry
     over_more entry y r h e = rw (add-one i) (more_suc i answers entry y r h e)
-
-    -- all of them written
-    pub over_end : (entry : List A) → i ≡ length answers → take i answers ++ drop i entry ≡ over answers entry
-    over_end entry e = rw (e, take-length answers)

@@ -9,7 +9,7 @@ use native.Mathlib.Omega.{arith}
 use lib.ListN.{length, get_or, take, drop, replicate}
 use borrow.Author.Tests.{eq-eqb, ne_eqb}
 use Rattle.base.specs.Lists.{All, Ordered, Asc, StrictAsc, hit, times}
-use Rattle.base.proofs.Order.{eq_or_ne}
+use Rattle.std.proofs.lemmas.Bool.{cases_eq}
 
 -- All, by the index
 
@@ -136,7 +136,7 @@ unfolding hit
 hit_other v x n = rw (ne_eqb v x n)
 
 pub hit-le : (v x : ℕ) → hit v x ≤ 1
-hit-le v x = ⊎_elim (λ (e : v ≡ x). rw e (omega (arith, hit_same x))) (λ (n : v ≢ x). omega (arith, hit_other v x n)) (eq_or_ne v x)
+hit-le v x = ⊎_elim (λ (e : v ≡ x). rw e (omega (arith, hit_same x))) (λ (n : v ≢ x). omega (arith, hit_other v x n)) (cases_eq v x)
 
 pub times-append : (v : ℕ) (xs ys : List ℕ) → times v (xs ++ ys) ≡ times v xs + times v ys
 unfolding times
@@ -166,7 +166,7 @@ times_find v (x ∷ xs) h =
     let o = hit_other v x n in
     let f = times_find v xs (omega arith) in
     (suc f.0, omega (arith, f.1), f.2))
-    (eq_or_ne v x)
+    (cases_eq v x)
 
 -- once at most in a strictly ascending list
 pub times_strict : (v : ℕ) (xs : List ℕ) → StrictAsc xs → times v xs ≤ 1
@@ -182,4 +182,4 @@ times_strict v (x ∷ xs) a =
     let o = hit_other v x n in
     let t = times_strict v xs a.1 in
     omega arith)
-    (eq_or_ne v x)
+    (cases_eq v x)

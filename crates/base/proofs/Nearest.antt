@@ -6,11 +6,11 @@ use Prim.Native.Nat.{ℕ, ◌≤◌, ◌<◌}
 use native.Mathlib.Omega.{arith}
 use Rattle.base.specs.Counting.{Same}
 use Rattle.base.specs.Nearest.{LastBelow, NoneBelow, FirstFrom, NoneFrom}
-use Rattle.base.proofs.Order.{lt_or_ge}
+use Rattle.std.proofs.lemmas.Bool.{cases_lt}
 
 module _ {f : ℕ → ℕ} {n : ℕ} where
   pub last_le : {i j : ℕ} → LastBelow f n i → LastBelow f n j → i ≤ j
-  last_le {i} {j} a b = ⊎_elim (λ (l : j < i). absurd (omega (arith, a.on, b.off i l a.below))) (λ (l : i ≤ j). l) (lt_or_ge j i)
+  last_le {i} {j} a b = ⊎_elim (λ (l : j < i). absurd (omega (arith, a.on, b.off i l a.below))) (λ (l : i ≤ j). l) (cases_lt j i)
 
   pub last_unique : {i j : ℕ} → LastBelow f n i → LastBelow f n j → i ≡ j
   last_unique a b = omega (arith, last_le a b, last_le b a)
@@ -19,7 +19,7 @@ module _ {f : ℕ → ℕ} {n : ℕ} where
   last_not_none {j} a none = omega (arith, a.on, none j a.below)
 
   pub first_le : {i j : ℕ} → FirstFrom f n i → FirstFrom f n j → i ≤ j
-  first_le {i} {j} a b = ⊎_elim (λ (l : j < i). absurd (omega (arith, b.on, a.off j b.from l))) (λ (l : i ≤ j). l) (lt_or_ge j i)
+  first_le {i} {j} a b = ⊎_elim (λ (l : j < i). absurd (omega (arith, b.on, a.off j b.from l))) (λ (l : i ≤ j). l) (cases_lt j i)
 
   pub first_unique : {i j : ℕ} → FirstFrom f n i → FirstFrom f n j → i ≡ j
   first_unique a b = omega (arith, first_le a b, first_le b a)
@@ -42,12 +42,12 @@ module _ (f : ℕ → ℕ) (n m j : ℕ) (le : n ≤ m) (none : (k : ℕ) → n 
   last_more a = record {
     below = omega (arith, a.below);
     on = a.on;
-    off = λ k l h. ⊎_elim (λ (b : k < n). a.off k l b) (λ (b : n ≤ k). none k b h) (lt_or_ge k n);
+    off = λ k l h. ⊎_elim (λ (b : k < n). a.off k l b) (λ (b : n ≤ k). none k b h) (cases_lt k n);
   }
 
   pub first_more : FirstFrom f m j → FirstFrom f n j
   first_more a = record {
     from = omega (arith, a.from);
     on = a.on;
-    off = λ k l h. ⊎_elim (λ (b : k < m). none k l b) (λ (b : m ≤ k). a.off k b h) (lt_or_ge k m);
+    off = λ k l h. ⊎_elim (λ (b : k < m). none k l b) (λ (b : m ≤ k). a.off k b h) (cases_lt k m);
   }

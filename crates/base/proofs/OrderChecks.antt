@@ -1,21 +1,22 @@
 -- `order_of` is the first place at which the order breaks, for any test of two neighbours; at `ltb` there is none exactly where the list ascends strictly, at
 -- `leb` exactly where it never descends. A loop that passes the list once finds it: what is left gives the answer of the whole. Assumes nothing.
 use Prim.Native.Nat.{ℕ, zero, suc, ◌+◌, ◌-◌, ◌<◌, ◌≤◌}
-use mathlib.Core.Path.{◌≡◌, refl, sym, ◌∙◌, subst}
+use mathlib.Core.Path.{◌≡◌, refl, sym, ap, ◌∙◌, subst}
 use mathlib.Core.Logic.{⊎_elim}
-use mathlib.Core.List.{List, [], ◌∷◌}
+use mathlib.Core.List.{List, [], ◌∷◌, map}
 use mathlib.Core.Bool.{Bool, true, false}
 use native.Mathlib.Nat.{not-suc-le-zero}
 use native.Mathlib.Numerals.{add-one}
 use native.Mathlib.Omega.{arith}
 use lib.Dec.{ltb, leb}
-use lib.ListN.{length, get_or, drop, drop_of_length-le}
+use lib.ListN.{length, get_or, drop, drop_of_length-le, length-map}
+use Rattle.std.proofs.lemmas.List.{get_or-map}
 use lib.Seq.{drop-cons}
-use borrow.Author.Tests.{ltb-true, leb-true, lt-ltb, le-ltb, le-leb, lt-leb}
+use borrow.Author.Tests.{ltb-true, leb-true, lt-ltb, le-leb}
 use Rattle.base.specs.Pick.{pick}
 use Rattle.base.specs.Lists.{Asc, StrictAsc}
 use Rattle.base.specs.OrderChecks.{order_from, order_of, FirstWrong}
-use Rattle.base.proofs.Order.{lt_or_ge}
+use Rattle.std.proofs.lemmas.Bool.{cases_lt}
 use Rattle.base.proofs.Lists.{asc_steps, strict_steps, asc_at, strict_at}
 
 -- How many of xs, after p, pass: the answer is that many past i.
@@ -66,7 +67,7 @@ module _ (ok : ℕ → ℕ → Bool) where
   module _ (xs : List ℕ) where
     -- the later of two would have passed over a wrong one
     not_before : (r s : ℕ) → FirstWrong ok xs r → FirstWrong ok xs s → s ≤ r
-    not_before r s a b = ⊎_elim (λ (l : r < s). absurd (differ l)) (λ (l : s ≤ r). l) (lt_or_ge r s)
+    not_before r s a b = ⊎_elim (λ (l : r < s). absurd (differ l)) (λ (l : s ≤ r). l) (cases_lt r s)
       where
         differ : r < s → ⊥
         differ l =
@@ -146,16 +147,23 @@ module _ {ok : ℕ → ℕ → Bool} {xs : List ℕ} {n p i : ℕ} (c : Checking
       let all : order_of ok xs ≡ i = c.left ∙ rw (drop_of_length-le xs h) in
       omega (arith, all, c.upto)
 
--- The same by numbers: strictly ascending, and never down.
-module _ {xs : List ℕ} {n p i : ℕ} where
-  pub strict_pass : Checking ltb xs n p i → i < n → p < get_or xs i 0 → Checking ltb xs n (get_or xs i 0) (i + 1)
-  strict_pass c l h = checking_step c l (lt-ltb p (get_or xs i 0) h)
+-- The same where the numbers are those of a list of keys, of which x stands at i.
+module _ {A : Type 0} (f : A → ℕ) (keys : List A) {xs : List ℕ} (each : map f keys ≡ xs) where
+  module _ {ok : ℕ → ℕ → Bool} {n p i : ℕ} (c : Checking ok xs n p i) (l : i < n) {x : A} (is : x ≡ get_or keys i x) {v : ℕ} (w : v ≡ f x) where
+    key_at : v ≡ get_or xs i 0
+    key_at =
+        let h : i < length keys = omega (arith, c.all, length-map keys f, ap length each) in
+        w ∙ ap f is ∙ sym (get_or-map f keys i x 0 h) ∙ ap (λ (l : List ℕ). get_or l i 0) each
 
-  pub strict_stop : Checking ltb xs n p i → i < n → get_or xs i 0 ≤ p → i ≡ order_of ltb xs
-  strict_stop c l h = checking_stop c l (le-ltb p (get_or xs i 0) h)
+    pub key_step : ok p v ≡ true → Checking ok xs n v (i + 1)
+    key_step e = subst (λ (y : ℕ). Checking ok xs n y (i + 1)) (sym key_at) (checking_step c l (ap (ok p) (sym key_at) ∙ e))
 
-  pub asc_pass : Checking leb xs n p i → i < n → p ≤ get_or xs i 0 → Checking leb xs n (get_or xs i 0) (i + 1)
-  asc_pass c l h = checking_step c l (le-leb p (get_or xs i 0) h)
+    pub key_stop : ok p v ≡ false → i ≡ order_of ok xs
+    key_stop e = checking_stop c l (ap (ok p) (sym key_at) ∙ e)
 
-  pub asc_stop : Checking leb xs n p i → i < n → get_or xs i 0 < p → i ≡ order_of leb xs
-  asc_stop c l h = checking_stop c l (lt-leb p (get_or xs i 0) h)
+  -- before the second of them
+  pub key_start : (ok : ℕ → ℕ → Bool) {x : A} → x ≡ get_or keys 0 x → {v : ℕ} → v ≡ f x → (length keys ≡ 0 → ⊥) → Checking ok xs (length keys) v 1
+  key_start ok {x} is {v} w h =
+      let many : length keys ≡ length xs = sym (length-map keys f) ∙ ap length each in
+      let first : v ≡ get_or xs 0 0 = w ∙ ap f is ∙ sym (get_or-map f keys 0 x 0 (omega (arith, h))) ∙ ap (λ (l : List ℕ). get_or l 0 0) each in
+      subst (λ (y : ℕ). Checking ok xs (length keys) y 1) (sym first) (subst (λ (n : ℕ). Checking ok xs n (get_or xs 0 0) 1) (sym many) (checking_start ok xs (λ e. h (many ∙ e))))

@@ -1,5 +1,5 @@
 -- Where a list first breaks its order: the later of two neighbours that stand wrong.
-use Rattle.std.specs.Prelude.{Bool, true, false, List, [], ◌∷◌, ◌≡◌, ℕ, ◌+◌, ◌<◌, ◌≤◌, length, get_or}
+use Rattle.std.specs.Prelude.{Bool, true, false, List, [], ◌∷◌, ◌≡◌, ℕ, ◌+◌, ◌<◌, ◌≤◌, length, get_or, ltb, leb}
 use Rattle.base.specs.Pick.{pick}
 
 -- the head stands at i, after p: the index of the first element that is not `ok` after the one before it, or the index past the end
@@ -11,6 +11,11 @@ order_from ok i p (x ∷ xs) = pick (ok p x) (order_from ok (i + 1) x xs) i
 unfoldable pub order_of : (ℕ → ℕ → Bool) → List ℕ → ℕ
 order_of ok [] = 0
 order_of ok (x ∷ xs) = order_from ok 1 x xs
+
+-- the order that is asked for: strictly up, or never down
+abbrev pub in_order : Bool → ℕ → ℕ → Bool
+in_order true = ltb
+in_order false = leb
 
 -- what such an index r is, by neighbours: the first element is never wrong, each before r is ok, and the one at r is not, unless r is the length. The law
 -- `order_unique` says that `order_of` is the one such r

@@ -1,18 +1,17 @@
 // Lists of inserts or deletes by the slide mapper, a list to a call, from a state that the benchmark has made ready. Each function answers
-// how many moves it has run and leaves the last pair in `last`.
+// how many moves it has run and leaves the last pair in `last`. The two loops stand apart: one loop over a move that is passed would want a
+// trait, with a ghost member that says what the lists are ready for and how often, and is longer than both.
 ghost use Rattle.std.specs.Prelude.{ℕ, ◌+◌, ◌*◌, ◌^◌, ◌<◌, length, get_or};
 ghost use Rattle.slide_mapper.specs.State.{Ready};
 
-use base::Coord;
-use slide_mapper::Slide;
+use base::{Coord, Slide};
+use slide_mapper::lists::MapperLists;
 
 fn store(last: &mut [u32], at: Slide) {
-    if last.len() < 2 {
-        return;
+    if let [pivot, shared, ..] = last {
+        *pivot = at.pivot.0;
+        *shared = at.shared;
     }
-    let pivot = at.pivot;
-    last[0] = pivot.0;
-    last[1] = at.shared;
 }
 
 #[unsafe(no_mangle)]
@@ -27,20 +26,23 @@ pub extern "C" fn slide_insert(
 ) -> usize
     requires { Ready counts.old words.old summary.old (record { pivot = record { 0 = pivot }; shared = shared }) × ((j : ℕ) → get_or counts.old j 0 + 2 * length at.now < 2 ^ 32) }
 {
+    let mut lists = MapperLists {
+        counts,
+        words,
+        summary,
+    };
     let mut slide = Slide {
         pivot: Coord(pivot),
         shared,
     };
-    let mut k = 0;
-    while k < at.len() {
-        if counts.len() <= at[k] as usize {
+    for (k, i) in at.iter().enumerate() {
+        if lists.counts.len() <= *i as usize {
             return k;
         }
-        slide = slide_mapper::insert_ref(counts, words, summary, slide, Coord(at[k]));
-        k += 1;
+        slide = lists.insert_ref(slide, Coord(*i));
     }
     store(last, slide);
-    k
+    at.len()
 }
 
 #[unsafe(no_mangle)]
@@ -55,18 +57,21 @@ pub extern "C" fn slide_delete(
 ) -> usize
     requires { Ready counts.old words.old summary.old (record { pivot = record { 0 = pivot }; shared = shared }) }
 {
+    let mut lists = MapperLists {
+        counts,
+        words,
+        summary,
+    };
     let mut slide = Slide {
         pivot: Coord(pivot),
         shared,
     };
-    let mut k = 0;
-    while k < at.len() {
-        if counts.len() <= at[k] as usize {
+    for (k, i) in at.iter().enumerate() {
+        if lists.counts.len() <= *i as usize {
             return k;
         }
-        slide = slide_mapper::delete_ref(counts, words, summary, slide, Coord(at[k]));
-        k += 1;
+        slide = lists.delete_ref(slide, Coord(*i));
     }
     store(last, slide);
-    k
+    at.len()
 }

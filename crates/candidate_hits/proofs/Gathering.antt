@@ -2,53 +2,79 @@
 -- one, and what is put, the run that is not put yet and what the other groups will give make the whole. A key is never put past the hits that were read,
 -- so there is room. Where no group is dropped all hits are as one group. Assumes nothing.
 use mathlib.Core.Path.{◌≡◌, refl, sym, ap, ◌∙◌}
-use mathlib.Core.List.{List, [], ◌++◌, append-nil, append_assoc}
-use Prim.Native.Nat.{ℕ, ◌+◌, ◌≤◌, ◌<◌}
+use mathlib.Core.List.{List, [], ◌∷◌, ◌++◌, append-nil, append_assoc}
+use Prim.Native.Nat.{ℕ, zero, suc, ◌+◌, ◌-◌, ◌≤◌, ◌<◌}
 use native.Mathlib.Numerals.{add-one}
 use native.Mathlib.Omega.{arith}
-use lib.ListN.{length, get_or, set, take, drop, length-append, length-drop, drop_of_length-le}
-use lib.Seq.{paste, paste-zero, paste-suc, length-paste, take_at, take-add, drop_at, drop-append-add, drop-drop, get_or-drop, length-take-le, take_all}
+use lib.ListN.{length, get_or, set, take, drop, length-append, length-drop, length-set, drop_of_length-le}
+use borrow.Rule.Slice.PartMut.{put_mid, post_of, Post-is}
+use lib.Seq.{paste, paste-zero, paste-suc, length-paste, take_at, take-add, drop_at, drop-append-add, drop-drop, length-take-le, take_all}
 use Rattle.base.specs.Buffers.{over}
 use Rattle.base.specs.Lists.{All}
 use Rattle.base.specs.Sort.{sort_of}
 use Rattle.base.proofs.Sort.{length_sort}
 use Rattle.keys.specs.Lists.{Fronted}
-use Rattle.rules.specs.Limits.{item_limit}
 use Rattle.rules.specs.Lists.{sum}
 use Rattle.rules.specs.Finder.{kept, key_of, keys_of}
 use Rattle.rules.proofs.FinderKept.{keys_length, keys_at, sum_next, kept_from, kept_keep, kept_pass, kept_end, kept_all}
-use Rattle.candidate_hits.specs.Groups.{Grouped, GroupAt, Parallel}
+use Rattle.candidate_hits.specs.declared.Hits.{Hits}
 
--- ---- one group, after k of its keys
+-- ---- all keys of some hits, after the first k
 
-pub record Putting (cs ps entry : List ℕ) (from count n : ℕ) (now : List ℕ) (k : ℕ) : Type 0 where
-  pub upto : k ≤ count
-  pub is : now ≡ paste entry n (drop from (keys_of cs ps)) k
+pub record Putting (cs ps entry now : List ℕ) (k : ℕ) : Type 0 where
+  pub is : now ≡ paste entry 0 (keys_of cs ps) k
   pub same : length now ≡ length entry
 
-module _ {cs ps entry : List ℕ} {from count n : ℕ} (asked : GroupAt cs ps entry from count n) where
-  hits_left : count ≤ length (drop from (keys_of cs ps))
-  hits_left = omega (arith, length-drop from (keys_of cs ps), keys_length cs ps asked.parallel, asked.within)
+module _ {cs ps entry : List ℕ} where
+  pub putting_start : Putting cs ps entry entry 0
+  putting_start = record { is = paste-zero entry 0 (keys_of cs ps); same = refl }
 
-  pub putting_start : Putting cs ps entry from count n entry 0
-  putting_start = record { upto = omega arith; is = paste-zero entry n (drop from (keys_of cs ps)); same = refl }
-
-  module _ {now : List ℕ} {k : ℕ} (p : Putting cs ps entry from count n now k) where
-    pub putting_step : (x : ℕ) → k < count → x ≡ key_of (get_or cs (from + k) 0) (get_or ps (from + k) 0) → Putting cs ps entry from count n (set now (n + k) x) (k + 1)
+  module _ (parallel : length cs ≡ length ps) (exact : length entry ≡ length cs) {now : List ℕ} {k : ℕ} (p : Putting cs ps entry now k) where
+    pub putting_step : (x : ℕ) → k < length now → x ≡ key_of (get_or cs k 0) (get_or ps k 0) → Putting cs ps entry (set now k x) (k + 1)
     putting_step x l e =
-        let hits = drop from (keys_of cs ps) in
-        let key : x ≡ get_or hits k 0 = e ∙ sym (keys_at cs ps (from + k) asked.parallel (omega (arith, asked.within))) ∙ sym (get_or-drop from (keys_of cs ps) k 0) in
-        let more : set now (n + k) x ≡ paste entry n hits (k + 1) =
-        ap (λ (v : ℕ). set now (n + k) v) key ∙ ap (λ (a : List ℕ). set a (n + k) (get_or hits k 0)) p.is ∙
-        paste-suc entry n hits k 0 (omega (arith, asked.room)) (omega (arith, hits_left)) ∙ ap (paste entry n hits) (sym (add-one k)) in
-        record {
-          upto = omega arith;
-          is = more;
-          same = ap length more ∙ length-paste entry n hits (k + 1) (omega (arith, asked.room)) (omega (arith, hits_left));
-        }
+        let hits = keys_of cs ps in
+        let long : length hits ≡ length cs = keys_length cs ps parallel in
+        let at : k ≡ 0 + k = omega arith in
+        let within : k < length entry = omega (arith, p.same) in
+        let key : x ≡ get_or hits k 0 = e ∙ sym (keys_at cs ps k parallel (omega arith)) in
+        let more : set now k x ≡ paste entry 0 hits (k + 1) =
+        ap (λ (v : ℕ). set now k v) key ∙ ap (λ (a : List ℕ). set a k (get_or hits k 0)) p.is ∙
+        ap (λ (i : ℕ). set (paste entry 0 hits k) i (get_or hits k 0)) at ∙ paste-suc entry 0 hits k 0 (omega arith) (omega arith) ∙ ap (paste entry 0 hits) (sym (add-one k)) in
+        record { is = more; same = length-set now k x ∙ p.same }
 
-    pub putting_end : count ≤ k → now ≡ paste entry n (drop from (keys_of cs ps)) count
-    putting_end l = let all : k ≡ count = omega arith in p.is ∙ ap (paste entry n (drop from (keys_of cs ps))) all
+    pub putting_end : length now ≤ k → now ≡ keys_of cs ps
+    putting_end l =
+        let hits = keys_of cs ps in
+        let long : length hits ≡ length cs = keys_length cs ps parallel in
+        p.is ∙ ap (λ (x : List ℕ). x ++ drop (0 + k) entry) (take_all k hits (omega (arith, p.same))) ∙
+        ap (λ (x : List ℕ). hits ++ x) (drop_of_length-le entry (omega (arith, p.same))) ∙ append-nil hits
+
+-- ---- the keys of a part of the hits, put in the place of a part of the list
+
+keys_take : (n : ℕ) (cs ps : List ℕ) → keys_of (take n cs) (take n ps) ≡ take n (keys_of cs ps)
+unfolding keys_of
+keys_take zero cs ps = refl
+keys_take (suc n) [] ps = refl
+keys_take (suc n) (c ∷ cs) [] = refl
+keys_take (suc n) (c ∷ cs) (p ∷ ps) = ap (λ (l : List ℕ). key_of c p ∷ l) (keys_take n cs ps)
+
+keys_drop : (n : ℕ) (cs ps : List ℕ) → length cs ≡ length ps → keys_of (drop n cs) (drop n ps) ≡ drop n (keys_of cs ps)
+unfolding keys_of
+keys_drop zero cs ps e = refl
+keys_drop (suc n) [] [] e = refl
+keys_drop (suc n) [] (p ∷ ps) e = absurd (omega arith)
+keys_drop (suc n) (c ∷ cs) [] e = absurd (omega arith)
+keys_drop (suc n) (c ∷ cs) (p ∷ ps) e = keys_drop n cs ps (omega arith)
+
+pub put_part : (cs ps now : List ℕ) {part : List ℕ} (from run n : ℕ) → length cs ≡ length ps
+    → part ≡ keys_of (take (from + run - from) (drop from cs)) (take (from + run - from) (drop from ps)) → put_mid n (n + run - n) now part ≡ paste now n (drop from (keys_of cs ps)) run
+put_part cs ps now {part} from run n parallel is =
+    let hits = keys_of cs ps in
+    let many : from + run - from ≡ run = omega arith in
+    let keys : part ≡ take run (drop from hits) =
+    is ∙ keys_take (from + run - from) (drop from cs) (drop from ps) ∙ ap (take (from + run - from)) (keys_drop from cs ps parallel) ∙ ap (λ (k : ℕ). take k (drop from hits)) many in
+    ap (λ (x : List ℕ). take n now ++ (x ++ post_of n (n + run - n) now)) keys ∙
+    ap (λ (x : List ℕ). take n now ++ (take run (drop from hits) ++ x)) (Post-is n (n + run) now (omega arith)) ∙ sym (append_assoc (take n now) (take run (drop from hits)) (drop (n + run) now))
 
 -- ---- all groups, before the g-th: the `run` hits from `from` on are kept and not put yet
 
@@ -62,50 +88,68 @@ pasted front entry now part n m e is fits =
     ap (λ (x : List ℕ). x ++ take m part ++ drop (n + m) now) (ap (take n) is ∙ take_at front (drop (length front) entry) n e) ∙
     ap (λ (x : List ℕ). front ++ take m part ++ x) rest ∙ ap (λ (k : ℕ). front ++ take m part ++ drop k entry) (sym long)
 
-pub record Filling (threshold : ℕ) (groups hits entry now : List ℕ) (g from run n : ℕ) : Type 0 where
+-- the keys of the hits, and those of the kept ones
+abbrev hits_of : Hits → List ℕ
+hits_of h = keys_of h.contigs.now h.positions.now
+
+abbrev kept_of : Hits → List ℕ
+kept_of h = kept h.threshold h.groups.now (hits_of h)
+
+pub record Filling (h : Hits) (entry now : List ℕ) (g from run n : ℕ) : Type 0 where
   pub front : List ℕ
   pub many : length front ≡ n
-  pub whole : front ++ take run (drop from hits) ++ kept_from threshold groups hits g (from + run) ≡ kept threshold groups hits
+  pub whole : front ++ take run (drop from (hits_of h)) ++ kept_from h.threshold h.groups.now (hits_of h) g (from + run) ≡ kept_of h
   pub is : now ≡ over front entry
-  pub left : from + run + sum (drop g groups) ≡ length hits
+  pub left : from + run + sum (drop g h.groups.now) ≡ length h.contigs.now
   pub few : n ≤ from
-  pub room : length hits ≤ length entry
+  pub room : length h.contigs.now ≤ length entry
   pub same : length now ≡ length entry
-  pub upto : g ≤ length groups
+  pub upto : g ≤ length h.groups.now
 
-pub filling_start : (threshold : ℕ) {groups cs ps entry : List ℕ} → Grouped groups cs ps entry → Filling threshold groups (keys_of cs ps) entry entry 0 0 0 0
-filling_start threshold {groups} {cs} {ps} {entry} a = record {
+pub filling_start : (h : Hits) {entry : List ℕ} → length h.contigs.now ≤ length entry → Filling h entry entry 0 0 0 0
+filling_start h {entry} room = record {
   front = [];
   many = refl;
   whole = refl;
   is = refl;
-  left = omega (arith, a.all, keys_length cs ps a.parallel);
+  left = omega (arith, h.all);
   few = omega arith;
-  room = omega (arith, a.room, keys_length cs ps a.parallel);
+  room = room;
   same = refl;
   upto = omega arith;
 }
 
-module _ {threshold : ℕ} {groups hits entry now : List ℕ} {g from run n : ℕ} (f : Filling threshold groups hits entry now g from run n) where
+module _ {h : Hits} {entry now : List ℕ} {g from run n : ℕ} (f : Filling h entry now g from run n) where
   abbrev size : ℕ
-  size = get_or groups g 0
+  size = get_or h.groups.now g 0
 
   abbrev part : List ℕ
-  part = take run (drop from hits)
+  part = take run (drop from (hits_of h))
+
+  hits_long : length (hits_of h) ≡ length h.contigs.now
+  hits_long = keys_length h.contigs.now h.positions.now h.parallel
+
+  -- the run's hits are there, and so is room for their keys
+  pub filling_within : from + run ≤ length h.contigs.now
+  filling_within = omega (arith, f.left)
+
+  pub filling_room : n + run ≤ length now
+  filling_room = omega (arith, f.left, f.few, f.room, f.same)
 
   -- the run is put after the front
-  fits : run ≤ length (drop from hits)
-  fits = omega (arith, f.left, length-drop from hits)
+  fits : run ≤ length (drop from (hits_of h))
+  fits = omega (arith, f.left, length-drop from (hits_of h), hits_long)
 
   put_many : length (f.front ++ part) ≡ n + run
-  put_many = length-append f.front part ∙ ap (λ (k : ℕ). k + length part) f.many ∙ ap (λ (k : ℕ). n + k) (length-take-le run (drop from hits) fits)
+  put_many = length-append f.front part ∙ ap (λ (k : ℕ). k + length part) f.many ∙ ap (λ (k : ℕ). n + k) (length-take-le run (drop from (hits_of h)) fits)
 
-  put_is : (now' : List ℕ) → now' ≡ paste now n (drop from hits) run → now' ≡ over (f.front ++ part) entry
-  put_is now' put = put ∙ pasted f.front entry now (drop from hits) n run f.many f.is fits
+  put_is : (now' : List ℕ) → now' ≡ paste now n (drop from (hits_of h)) run → now' ≡ over (f.front ++ part) entry
+  put_is now' put = put ∙ pasted f.front entry now (drop from (hits_of h)) n run f.many f.is fits
 
-  module _ (l : g < length groups) where
-    pub filling_keep : size < threshold → Filling threshold groups hits entry now (g + 1) from (run + size) n
+  module _ (l : g < length h.groups.now) where
+    pub filling_keep : size < h.threshold → Filling h entry now (g + 1) from (run + size) n
     filling_keep short =
+        let hits = hits_of h in
         let at : from + (run + size) ≡ from + run + size = omega arith in
         let next = take size (drop (from + run) hits) in
         let longer : take (run + size) (drop from hits) ≡ part ++ next = take-add run size (drop from hits) ∙ ap (λ (x : List ℕ). part ++ take size x) (drop-drop run from hits) in
@@ -113,74 +157,54 @@ module _ {threshold : ℕ} {groups hits entry now : List ℕ} {g from run n : �
           front = f.front;
           many = f.many;
           whole =
-              ap (λ (x : List ℕ). f.front ++ x ++ kept_from threshold groups hits (g + 1) (from + (run + size))) longer ∙
-              ap (λ (k : ℕ). f.front ++ (part ++ next) ++ kept_from threshold groups hits (g + 1) k) at ∙
-              ap (λ (x : List ℕ). x ++ kept_from threshold groups hits (g + 1) (from + run + size)) (sym (append_assoc f.front part next)) ∙
-              append_assoc (f.front ++ part) next (kept_from threshold groups hits (g + 1) (from + run + size)) ∙
-              ap (λ (x : List ℕ). f.front ++ part ++ x) (sym (kept_keep threshold groups hits g (from + run) l short)) ∙ f.whole;
+              ap (λ (x : List ℕ). f.front ++ x ++ kept_from h.threshold h.groups.now hits (g + 1) (from + (run + size))) longer ∙
+              ap (λ (k : ℕ). f.front ++ (part ++ next) ++ kept_from h.threshold h.groups.now hits (g + 1) k) at ∙
+              ap (λ (x : List ℕ). x ++ kept_from h.threshold h.groups.now hits (g + 1) (from + run + size)) (sym (append_assoc f.front part next)) ∙
+              append_assoc (f.front ++ part) next (kept_from h.threshold h.groups.now hits (g + 1) (from + run + size)) ∙
+              ap (λ (x : List ℕ). f.front ++ part ++ x) (sym (kept_keep h.threshold h.groups.now hits g (from + run) l short)) ∙ f.whole;
           is = f.is;
-          left = omega (arith, sum_next groups g l, f.left);
+          left = omega (arith, sum_next h.groups.now g l, f.left);
           few = f.few;
           room = f.room;
           same = f.same;
           upto = omega arith;
         }
 
-    pub filling_pass : (now' : List ℕ) → threshold ≤ size → now' ≡ paste now n (drop from hits) run → length now' ≡ length now
-        → Filling threshold groups hits entry now' (g + 1) (from + (run + size)) 0 (n + run)
-    filling_pass now' long put same =
-        let at : from + (run + size) + 0 ≡ from + run + size = omega arith in
+    pub filling_pass : {now' : List ℕ} → h.threshold ≤ size → now' ≡ paste now n (drop from (hits_of h)) run → Filling h entry now' (g + 1) (from + run + size) 0 (n + run)
+    filling_pass {now'} long put =
+        let hits = hits_of h in
+        let at : from + run + size + 0 ≡ from + run + size = omega arith in
         record {
           front = f.front ++ part;
           many = put_many;
           whole =
-              ap (λ (x : List ℕ). x ++ kept_from threshold groups hits (g + 1) (from + (run + size) + 0)) (append-nil (f.front ++ part)) ∙
-              ap (λ (k : ℕ). f.front ++ part ++ kept_from threshold groups hits (g + 1) k) at ∙
-              ap (λ (x : List ℕ). f.front ++ part ++ x) (sym (kept_pass threshold groups hits g (from + run) l long)) ∙ f.whole;
+              ap (λ (x : List ℕ). x ++ kept_from h.threshold h.groups.now hits (g + 1) (from + run + size + 0)) (append-nil (f.front ++ part)) ∙
+              ap (λ (k : ℕ). f.front ++ part ++ kept_from h.threshold h.groups.now hits (g + 1) k) at ∙
+              ap (λ (x : List ℕ). f.front ++ part ++ x) (sym (kept_pass h.threshold h.groups.now hits g (from + run) l long)) ∙ f.whole;
           is = put_is now' put;
-          left = omega (arith, sum_next groups g l, f.left);
+          left = omega (arith, sum_next h.groups.now g l, f.left);
           few = omega (arith, f.few);
           room = f.room;
-          same = same ∙ f.same;
+          same = ap length put ∙ length-paste now n (drop from hits) run filling_room fits ∙ f.same;
           upto = omega arith;
         }
 
-  pub filling_end : (now' : List ℕ) → length groups ≤ g → now' ≡ paste now n (drop from hits) run → Fronted (kept threshold groups hits) entry now' (n + run)
-  filling_end now' l put =
-      let all : f.front ++ part ≡ kept threshold groups hits =
-      sym (append-nil (f.front ++ part)) ∙ ap (λ (x : List ℕ). f.front ++ part ++ x) (sym (kept_end threshold groups hits g (from + run) l)) ∙ f.whole in
+  pub filling_end : {now' : List ℕ} → length h.groups.now ≤ g → now' ≡ paste now n (drop from (hits_of h)) run → Fronted (kept_of h) entry now' (n + run)
+  filling_end {now'} l put =
+      let all : f.front ++ part ≡ kept_of h =
+      sym (append-nil (f.front ++ part)) ∙ ap (λ (x : List ℕ). f.front ++ part ++ x) (sym (kept_end h.threshold h.groups.now (hits_of h) g (from + run) l)) ∙ f.whole in
       record { many = sym put_many ∙ ap length all; is = put_is now' put ∙ ap (λ (x : List ℕ). over x entry) all }
-
-module _ {threshold : ℕ} {groups cs ps entry now : List ℕ} {g from run n : ℕ} (a : Grouped groups cs ps entry) (f : Filling threshold groups (keys_of cs ps) entry now g from run n) where
-  -- the run's hits are there, and so is room for their keys
-  pub filling_run : GroupAt cs ps now from run n
-  filling_run =
-      let k = keys_length cs ps a.parallel in
-      record { parallel = a.parallel; within = omega (arith, f.left); room = omega (arith, f.left, f.few, f.same, a.room) }
-
-  -- the next group ends within the hits, which are few
-  pub filling_within : g < length groups → from + run + get_or groups g 0 ≤ item_limit
-  filling_within l = omega (arith, sum_next groups g l, f.left, keys_length cs ps a.parallel, a.few)
 
 -- ---- all hits as one group, where none is dropped
 
-pub flat_put : {cs ps entry : List ℕ} → Parallel cs ps entry → paste entry 0 (drop 0 (keys_of cs ps)) (length cs) ≡ keys_of cs ps
-flat_put {cs} {ps} {entry} a =
-    let short : length entry ≤ 0 + length cs = omega (arith, a.exact) in
-    ap (λ (x : List ℕ). take (length cs) (keys_of cs ps) ++ x) (drop_of_length-le entry short) ∙ append-nil (take (length cs) (keys_of cs ps)) ∙
-    take_all (length cs) (keys_of cs ps) (omega (arith, keys_length cs ps a.parallel))
-
-pub flat_parallel : {groups cs ps entry : List ℕ} → Grouped groups cs ps entry → Parallel cs ps (take (length cs) entry)
-flat_parallel {groups} {cs} {ps} {entry} a = record { few = a.few; parallel = a.parallel; exact = length-take-le (length cs) entry a.room }
-
-pub flat_fronted : (threshold : ℕ) {groups cs ps entry part : List ℕ} → Grouped groups cs ps entry → All (λ g. g < threshold) groups → part ≡ sort_of (keys_of cs ps)
-    → Fronted (sort_of (kept threshold groups (keys_of cs ps))) entry (part ++ drop (length cs) entry) (length cs)
-flat_fronted threshold {groups} {cs} {ps} {entry} {part} a short sorted =
-    let hits = keys_of cs ps in
-    let long : length hits ≡ length cs = keys_length cs ps a.parallel in
-    let many : length cs ≡ length (sort_of hits) = sym (length_sort hits ∙ long) in
-    rw (kept_all threshold groups hits short (a.all ∙ sym long))
-    (record { many = many; is = ap (λ (x : List ℕ). x ++ drop (length cs) entry) sorted ∙ ap (λ (k : ℕ). sort_of hits ++ drop k entry) many })
+pub flat_fronted : (h : Hits) {entry part : List ℕ} → All (λ g. g < h.threshold) h.groups.now → part ≡ sort_of (hits_of h)
+    → Fronted (sort_of (kept_of h)) entry (part ++ drop (length h.contigs.now) entry) (length h.contigs.now)
+flat_fronted h {entry} {part} short sorted =
+    let hits = hits_of h in
+    let long : length hits ≡ length h.contigs.now = keys_length h.contigs.now h.positions.now h.parallel in
+    let many : length h.contigs.now ≡ length (sort_of hits) = sym (length_sort hits ∙ long) in
+    rw (kept_all h.threshold h.groups.now hits short (h.all ∙ sym long))
+    (record { many = many; is = ap (λ (x : List ℕ). x ++ drop (length h.contigs.now) entry) sorted ∙ ap (λ (k : ℕ). sort_of hits ++ drop k entry) many })
 
 -- ---- the front
 
@@ -190,17 +214,3 @@ module _ {answers entry now : List ℕ} {n : ℕ} (f : Fronted answers entry now
 
   pub fronted_within : length now ≡ length entry → n ≤ length now
   fronted_within same = omega (arith, ap length f.is, length-append answers (drop (length answers) entry), f.many)
-
--- ---- the front sorted
-
-pub fronted_then : {answers entry now part : List ℕ} {n : ℕ} → Fronted answers entry now n → part ≡ sort_of (take n now) → Fronted (sort_of answers) entry (part ++ drop n now) n
-fronted_then {answers} {entry} {now} {part} {n} f sorted =
-    let front : take n now ≡ answers = ap (take n) f.is ∙ take_at answers (drop (length answers) entry) n (sym f.many) in
-    let long : length (sort_of answers) ≡ n = length_sort answers ∙ sym f.many in
-    let rest : drop n now ≡ drop n entry =
-    ap (drop n) f.is ∙ ap (λ (k : ℕ). drop k (over answers entry)) f.many ∙ drop_at answers (drop (length answers) entry) (length answers) refl ∙
-    ap (λ (k : ℕ). drop k entry) (sym f.many) in
-    record {
-      many = sym long;
-      is = ap (λ (x : List ℕ). x ++ drop n now) (sorted ∙ ap sort_of front) ∙ ap (λ (x : List ℕ). sort_of answers ++ x) rest ∙ ap (λ (k : ℕ). sort_of answers ++ drop k entry) (sym long);
-    }

@@ -11,7 +11,8 @@ use lib.ListN.{length, get_or, take, drop, length-map}
 use borrow.Author.Tests.{ltb-true}
 use Rattle.base.specs.Pick.{pick}
 use Rattle.base.specs.Sort.{insert, sort_of}
-use Rattle.base.proofs.Order.{lt_or_ge, le_or_le}
+use Rattle.std.proofs.lemmas.Bool.{cases_lt}
+use Rattle.base.proofs.Order.{le_or_le}
 use Rattle.base.proofs.Sort.{asc_sort, length_sort, sort_mid, sort_append, sort_map}
 use Rattle.keys.specs.Lists.{under, below}
 use Rattle.keys.proofs.Searching.{under_yes, under_no}
@@ -19,8 +20,9 @@ use Rattle.rules.specs.Limits.{item_limit}
 use Rattle.rules.specs.Lists.{filter}
 use Rattle.rules.specs.Finder.{Finder, kept, key_of, events_of_hits, hit_events}
 use Rattle.rules.proofs.FinderKept.{kept_map}
-use Rattle.interval_cover.specs.Cover.{events_of, Intervals}
-use Rattle.interval_hits.specs.Hits.{Hit, hits_of, is_forward, open_of, close_of, intervals_of}
+use Rattle.interval_cover.specs.Cover.{events_of}
+use Rattle.interval_cover.specs.Intervals.{Intervals}
+use Rattle.interval_hits.specs.Keys.{Hit, hits_of, is_forward, open_of, close_of, intervals_of}
 
 -- ---- counts of keys
 
@@ -62,7 +64,7 @@ forward_one : (x : ℕ) (h : Hit) → Good h → under (x + 1) (close_of h) ≤ 
 unfolding key_of
 forward_one x h g =
     ⊎_elim (λ (l : close_of h < x + 1). omega (arith, under_yes (x + 1) (close_of h) l, under_yes x (open_of h) (omega (arith, g.forward))))
-    (λ (l : x + 1 ≤ close_of h). omega (arith, under_no (x + 1) (close_of h) l)) (lt_or_ge (close_of h) (x + 1))
+    (λ (l : x + 1 ≤ close_of h). omega (arith, under_no (x + 1) (close_of h) l)) (cases_lt (close_of h) (x + 1))
 
 within_one : (c : ℕ) (h : Hit) → Good h → under (c * 2 ^ 32) (close_of h) ≡ under (c * 2 ^ 32) (open_of h)
 unfolding key_of
@@ -70,7 +72,7 @@ within_one c h g =
     ⊎_elim
     (λ (l : close_of h < c * 2 ^ 32). under_yes (c * 2 ^ 32) (close_of h) l ∙ sym (under_yes (c * 2 ^ 32) (open_of h) (omega (arith, g.forward))))
     (λ (l : c * 2 ^ 32 ≤ close_of h). under_no (c * 2 ^ 32) (close_of h) l ∙ sym (under_no (c * 2 ^ 32) (open_of h) (omega (arith, g.forward, g.fits))))
-    (lt_or_ge (close_of h) (c * 2 ^ 32))
+    (cases_lt (close_of h) (c * 2 ^ 32))
 
 forward_all : (x : ℕ) (hs : List Hit) → AllGood hs → below (x + 1) (map close_of hs) ≤ below x (map open_of hs)
 unfolding below

@@ -5,8 +5,9 @@ use mathlib.Core.Path.{◌≡◌, refl, ap}
 use mathlib.Core.List.{List, [], ◌∷◌}
 use native.Mathlib.Omega.{arith}
 use lib.ListN.{get_or, replicate}
+use Rattle.std.specs.Prelude.{Err}
 use Rattle.base.specs.declared.Refusal.{Refusal}
-use Rattle.base.specs.declared.FinderAnswer.{FinderAnswer}
+use Rattle.base.specs.Answers.{FinderAnswer, listed}
 use Rattle.rules.specs.Finder.{Finder}
 use Rattle.rules.specs.Calls.{FinderLent, IntervalFinderPromise}
 use Rattle.rules.specs.Computes.{computes}
@@ -18,7 +19,7 @@ pub row_k_is : row_k ≡ finder_of (3 ∷ []) (0 ∷ 0 ∷ 0 ∷ []) (2 ∷ 4 �
 row_k_is = refl
 
 -- one that refuses all
-pub interval_finder_refuses_all : (x : Refusal) (after : FinderLent) (closes : List ℕ) → IntervalFinderPromise row_k (FinderAnswer.Refused x) ones_hits after (replicate 3 1) closes → ⊥
+pub interval_finder_refuses_all : (x : Refusal) (after : FinderLent) (closes : List ℕ) → IntervalFinderPromise row_k (Err x) ones_hits after (replicate 3 1) closes → ⊥
 unfolding computes
 interval_finder_refuses_all x after closes p = let e : ◌≡◌ {A = ℕ} 0 2 = ap size p.answer in omega (arith, e)
 
@@ -43,7 +44,7 @@ abbrev dropped : Finder
 dropped = finder_of (2 ∷ 1 ∷ []) (0 ∷ 0 ∷ 0 ∷ []) (2 ∷ 4 ∷ 6 ∷ []) (6 ∷ 8 ∷ 6 ∷ []) 2 1
 
 -- seed hits of dropped groups, or ranges of a group as long as the threshold, or an empty interval not counted: no range, and one seed hit
-pub interval_finder_keeps_dropped : (n hits : ℕ) (after : FinderLent) (closes : List ℕ) → IntervalFinderPromise dropped (FinderAnswer.Listed n hits) ones_hits after (replicate 3 1) closes
+pub interval_finder_keeps_dropped : (n hits : ℕ) (after : FinderLent) (closes : List ℕ) → IntervalFinderPromise dropped (listed n hits) ones_hits after (replicate 3 1) closes
     → (n ≡ 0) × (hits ≡ 1)
 unfolding computes
 interval_finder_keeps_dropped n hits after closes p = (ap (value 0) p.answer, ap (value 1) p.answer)

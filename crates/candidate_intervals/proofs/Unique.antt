@@ -3,7 +3,7 @@
 use mathlib.Core.Path.{◌≡◌, ap}
 use mathlib.Core.List.{List}
 use Prim.Native.Nat.{ℕ}
-use Rattle.base.specs.declared.FinderAnswer.{FinderAnswer}
+use Rattle.base.specs.Answers.{FinderAnswer}
 use Rattle.rules.specs.Finder.{Finder}
 use Rattle.rules.specs.Calls.{FinderLent, IntervalFinderPromise}
 use Rattle.rules.proofs.Unique.{interval_finder_unique}

@@ -1,10 +1,7 @@
 -- The call's lists as the rules take them.
-use Rattle.std.specs.Prelude.{List, ℕ, length}
-use Rattle.base.specs.Verdicts.{or_else}
-use Rattle.base.specs.declared.Verdict.{Verdict}
-use Rattle.rules.specs.Lists.{sum}
-use Rattle.rules.specs.Checks.{interval_finder_sizes, interval_finder_lengths, finder_needs, end_keys_need}
+use Rattle.std.specs.Prelude.{List, ℕ}
 use Rattle.rules.specs.Finder.{Finder}
+use Rattle.interval_hits.specs.declared.IntervalHits.{IntervalHits}
 
 -- the hits that are asked about; this finder has no length
 abbrev pub finder_of : (groups contigs starts ends : List ℕ) (threshold minimum : ℕ) → Finder
@@ -18,8 +15,6 @@ finder_of groups contigs starts ends threshold minimum = record {
   length = 0;
 }
 
--- the verdict of the checks, of the lengths of all lists but the groups
-unfoldable pub verdict_of : (groups : List ℕ) (hits starts ends minimum opens closes seqs lows highs : ℕ) → Verdict
-verdict_of groups hits starts ends minimum opens closes seqs lows highs =
-    or_else (or_else (interval_finder_sizes hits starts ends (length groups) minimum) (interval_finder_lengths hits starts ends (sum groups)))
-    (or_else (finder_needs hits opens seqs lows highs) (end_keys_need hits closes))
+-- the same of hits that passed the checks
+abbrev pub asked_of : IntervalHits → (minimum : ℕ) → Finder
+asked_of h minimum = finder_of h.groups.now h.contigs.now h.starts.now h.ends.now h.threshold minimum

@@ -1,72 +1,97 @@
 -- How ranges are joined, listed and written.
-use Rattle.std.specs.Prelude.{◌≡◌, Bool, true, false, List, [], ◌++◌, map, ℕ, ◌+◌, ◌-◌, ◌^◌, ◌≤◌, ◌<◌, length, get_or, set, drop}
+use Rattle.std.specs.Prelude.{◌≡◌, true, false, Option, Some, None, List, [], ◌∷◌, ◌++◌, map, ℕ, ◌+◌, ◌≤◌, length, set}
 use Rattle.base.specs.Buffers.{over}
-use Rattle.base.specs.Lists.{Asc}
-use Rattle.rules.specs.Limits.{item_limit}
-use Rattle.rules.specs.Finder.{Candidate, key_contig, join_from, run_range, run_ranges}
+use Rattle.rules.specs.Finder.{Candidate, joins, joined, join_from, join_all}
 use Rattle.candidate_ranges.specs.declared.candidates.L1Candidate.{L1Candidate}
+use Rattle.candidate_ranges.specs.declared.candidates.CandidateLists.{CandidateLists}
+use Rattle.candidate_ranges.specs.declared.candidates.Held.{Held}
 
 -- a range as the rules have it
 abbrev pub range_of : L1Candidate → Candidate
 range_of c = record { contig = c.contig; start = c.start; end = c.end }
 
+-- one or none
+abbrev pub range_in : Option L1Candidate → Option Candidate
+range_in None = None
+range_in (Some c) = Some (range_of c)
+
+-- and as a list
+abbrev pub ranges_in : Option L1Candidate → List Candidate
+ranges_in None = []
+ranges_in (Some c) = range_of c ∷ []
+
+-- the same three lists are lent on
+pub record SameLists (old new : CandidateLists) : Type 0 where
+  pub contigs : new.contigs.ghost_name ≡ old.contigs.ghost_name
+  pub starts : new.starts.ghost_name ≡ old.starts.ghost_name
+  pub ends : new.ends.ghost_name ≡ old.ends.ghost_name
+
+-- places for n ranges
+pub record Room (n : ℕ) (lists : CandidateLists) : Type 0 where
+  pub contigs : n ≤ length lists.contigs.now
+  pub starts : n ≤ length lists.starts.now
+  pub ends : n ≤ length lists.ends.now
+
+-- nothing was written
+pub record Kept (old new : CandidateLists) : Type 0 where
+  pub contigs : new.contigs.now ≡ old.contigs.now
+  pub starts : new.starts.now ≡ old.starts.now
+  pub ends : new.ends.now ≡ old.ends.now
+  pub same : SameLists old new
+
 -- a range was written at i
-pub record Put (cs ss es : List ℕ) (i : ℕ) (c : Candidate) (cs' ss' es' : List ℕ) : Type 0 where
-  pub contigs : cs' ≡ set cs i c.contig
-  pub starts : ss' ≡ set ss i c.start
-  pub ends : es' ≡ set es i c.end
+pub record Put (old : CandidateLists) (i : ℕ) (c : Candidate) (new : CandidateLists) : Type 0 where
+  pub contigs : new.contigs.now ≡ set old.contigs.now i c.contig
+  pub starts : new.starts.now ≡ set old.starts.now i c.start
+  pub ends : new.ends.now ≡ set old.ends.now i c.end
+  pub same : SameLists old new
 
--- a run from a to z is in one contig, and shorter than the length
-pub record Near (len a z : ℕ) : Type 0 where
-  pub order : a ≤ z
-  pub same : key_contig a ≡ key_contig z
-  pub short : z - a < len
+abbrev pub one_in : Option Candidate → ℕ
+one_in None = 0
+one_in (Some _) = 1
 
--- a run that is judged far gives no range, and any other is near
-pub record Judged (len a z : ℕ) (far : Bool) : Type 0 where
-  pub none : far ≡ true → run_range len a z ≡ []
-  pub near : far ≡ false → Near len a z
+-- how many ranges have begun
+abbrev pub begun : Held → ℕ
+begun h = h.written + one_in (range_in h.last)
 
--- sorted keys, few enough that no index overflows
-pub record Keys (keys : List ℕ) (span : ℕ) : Type 0 where
-  pub asc : Asc keys
-  pub few : length keys ≤ item_limit
-  pub small : span < 2 ^ 32
+-- this range is held, and n are written
+pub record Holds (n : ℕ) (c : Candidate) (r : Held) : Type 0 where
+  pub written : r.written ≡ n
+  pub last : range_in r.last ≡ Some c
 
--- runs before r give no range, and the one at r, if there is one, does
-pub record FirstRun (len span : ℕ) (keys : List ℕ) (r : ℕ) : Type 0 where
-  pub upto : r ≤ length keys
-  pub rest : run_ranges len (drop r keys) (drop (r + span) keys) ≡ run_ranges len keys (drop span keys)
-  pub near : r + span < length keys → Near len (get_or keys r 0) (get_or keys (r + span) 0)
+-- a range came: the first; one that joins the held one; one that has it written
+pub record Pushed (gap : ℕ) (h : Held) (c : Candidate) (old new : CandidateLists) (r : Held) : Type 0 where
+  pub first : range_in h.last ≡ None → Holds h.written c r × Kept old new
+  pub join : (p : Candidate) → range_in h.last ≡ Some p → joins gap p c ≡ true → Holds h.written (joined p c) r × Kept old new
+  pub push : (p : Candidate) → range_in h.last ≡ Some p → joins gap p c ≡ false → Holds (h.written + 1) c r × Put old h.written p new
 
--- an entry of each output list for each key
-pub record Room (keys cs ss es : List ℕ) : Type 0 where
-  pub contigs : length keys ≤ length cs
-  pub starts : length keys ≤ length ss
-  pub ends : length keys ≤ length es
+-- no more come
+pub record Finished (h : Held) (old new : CandidateLists) (r : ℕ) : Type 0 where
+  pub none : range_in h.last ≡ None → (r ≡ h.written) × Kept old new
+  pub some : (p : Candidate) → range_in h.last ≡ Some p → (r ≡ h.written + 1) × Put old h.written p new
 
--- a run that gives a range, and what is asked of the lists
-pub record AtRun (len span : ℕ) (keys : List ℕ) (at : ℕ) (cs ss es : List ℕ) : Type 0 where
-  pub sorted : Keys keys span
-  pub room : Room keys cs ss es
-  pub within : at + span < length keys
-  pub near : Near len (get_or keys at 0) (get_or keys (at + span) 0)
+-- the ranges that come, joined to the one that is held
+abbrev pub join_to : ℕ → Option Candidate → List Candidate → List Candidate
+join_to gap None rest = join_all gap rest
+join_to gap (Some p) rest = join_from gap p rest
 
--- ranges written as they end: `count` are done and stand over the fronts, and with the one that is held and what is still to come they make the whole
-pub record Listing (gap : ℕ) (whole rest : List Candidate) (prev : Candidate) (cs₀ ss₀ es₀ cs ss es : List ℕ) (count : ℕ) : Type 0 where
+-- ranges written as they end: those that are done stand over the fronts, and with the one that is held and what is still to come they make the whole
+pub record Holding (gap : ℕ) (whole rest : List Candidate) (old now : CandidateLists) (h : Held) : Type 0 where
   pub done : List Candidate
-  pub many : length done ≡ count
-  pub is : done ++ join_from gap prev rest ≡ whole
-  pub contigs : cs ≡ over (map (λ (c : Candidate). c.contig) done) cs₀
-  pub starts : ss ≡ over (map (λ (c : Candidate). c.start) done) ss₀
-  pub ends : es ≡ over (map (λ (c : Candidate). c.end) done) es₀
-  pub contigs_len : length cs ≡ length cs₀
-  pub starts_len : length ss ≡ length ss₀
-  pub ends_len : length es ≡ length es₀
+  pub many : length done ≡ h.written
+  pub is : done ++ join_to gap (range_in h.last) rest ≡ whole
+  pub contigs : now.contigs.now ≡ over (map (λ (c : Candidate). c.contig) done) old.contigs.now
+  pub starts : now.starts.now ≡ over (map (λ (c : Candidate). c.start) done) old.starts.now
+  pub ends : now.ends.now ≡ over (map (λ (c : Candidate). c.end) done) old.ends.now
+  pub contigs_len : length now.contigs.now ≡ length old.contigs.now
+  pub starts_len : length now.starts.now ≡ length old.starts.now
+  pub ends_len : length now.ends.now ≡ length old.ends.now
+  pub same : SameLists old now
 
 -- the ranges stand over the fronts of the three output lists, and r says how many they are
-pub record Listed (found : List Candidate) (cs ss es cs' ss' es' : List ℕ) (r : ℕ) : Type 0 where
+pub record Listed (found : List Candidate) (old new : CandidateLists) (r : ℕ) : Type 0 where
   pub many : r ≡ length found
-  pub contigs : cs' ≡ over (map (λ (c : Candidate). c.contig) found) cs
-  pub starts : ss' ≡ over (map (λ (c : Candidate). c.start) found) ss
-  pub ends : es' ≡ over (map (λ (c : Candidate). c.end) found) es
+  pub contigs : new.contigs.now ≡ over (map (λ (c : Candidate). c.contig) found) old.contigs.now
+  pub starts : new.starts.now ≡ over (map (λ (c : Candidate). c.start) found) old.starts.now
+  pub ends : new.ends.now ≡ over (map (λ (c : Candidate). c.end) found) old.ends.now
+  pub same : SameLists old new

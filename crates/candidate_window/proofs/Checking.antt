@@ -1,81 +1,98 @@
--- The checks of the minimizer finder: the verdict is the first refusal in number order, and a fine one tells that the hits passed each test. Assumes
--- nothing.
-use mathlib.Core.Path.{◌≡◌, refl, sym}
-use mathlib.Core.List.{List}
-use Prim.Native.Nat.{ℕ, ◌≤◌}
-use native.Mathlib.Omega.{arith}
-use lib.ListN.{length, take}
-use lib.Seq.{length-take-le}
-use Rattle.base.specs.Verdicts.{or_else}
+-- The checks of both finders: the verdict is the first refusal in number order, and a fine one tells that the hits passed each test. Assumes nothing.
+use Prim.Native.Nat.{ℕ, ◌+◌}
+use mathlib.Core.Path.{◌≡◌, refl, sym, ap, ◌∙◌}
+use mathlib.Core.Bool.{Bool, true, false, not, ◌||◌}
+use mathlib.Core.List.{List, [], ◌∷◌}
+use borrow.Author.Tests.{eq-eqb}
+use lib.Dec.{eqb}
+use lib.ListN.{length}
+use Rattle.std.specs.Prelude.{sum, Err}
+use Rattle.std.proofs.lemmas.List.Sums.{sum_by-cons}
+use Rattle.base.specs.Pick.{pick}
+use Rattle.base.specs.Verdicts.{Verdict, Fine, or_else}
+use Rattle.base.proofs.Verdicts.{or_fine}
 use Rattle.base.specs.declared.Refusal.{Refusal}
-use Rattle.base.specs.declared.Verdict.{Verdict}
-use Rattle.base.specs.declared.Verdict.TheVariants.{Fine, No}
-use Rattle.base.proofs.Verdicts.{or_stop, or_skip, or_fine, lt_fine}
-use Rattle.rules.specs.Lists.{sum}
-use Rattle.rules.specs.Checks.{minimizer_finder_sizes, minimizer_finder_lengths, minimizer_finder_input, finder_needs}
+use Rattle.rules.specs.Lists as rules
+use Rattle.rules.specs.Accepted.{FinderAccepted, FinderFits}
+use Rattle.rules.specs.Calls.{FinderLent, finder_room_of}
 use Rattle.rules.specs.Finder.{Finder}
 use Rattle.rules.specs.Refusals.{minimizer_finder_verdict}
-use Rattle.rules.specs.Calls.{FinderLent, finder_room_of}
 use Rattle.rules.proofs.Accepted.{minimizer_finder_accepted, finder_fits}
+use Rattle.rules.specs.Checks.{minimizer_finder_input, minimizer_finder_sizes, minimizer_finder_lengths, interval_finder_sizes, interval_finder_lengths, finder_needs, end_keys_need}
 use Rattle.candidate_window.specs.Given.{verdict_of}
-use Rattle.candidate_window.specs.Work.{Accepted}
 
--- The chain, of the groups and of the lengths of the other lists.
-module _ (groups : List ℕ) (hits positions minimum keys contigs starts ends : ℕ) where
-  abbrev sizes : Verdict
-  sizes = minimizer_finder_sizes hits positions (length groups) minimum
+-- the library's sum is the rules' own
+pub sum_same : (xs : List ℕ) → sum xs ≡ rules.sum xs
+unfolding rules.sum
+sum_same [] = refl
+sum_same (x ∷ xs) = sum_by-cons (λ n. n) x xs ∙ ap (λ (n : ℕ). x + n) (sum_same xs)
 
-  abbrev lengths : Verdict
-  lengths = minimizer_finder_lengths hits positions (sum groups)
+-- ---- a chain of choices as one
 
-  abbrev room : Verdict
-  room = finder_needs hits keys contigs starts ends
+pick_or : {A : Type 0} (a b : Bool) (x y : A) → pick (a || b) x y ≡ pick a x (pick b x y)
+unfolding pick
+pick_or true b x y = refl
+pick_or false b x y = refl
 
-  pub refused_sizes : (x : Refusal) → minimizer_finder_sizes hits positions (length groups) minimum ≡ No x → No x ≡ verdict_of groups hits positions minimum keys contigs starts ends
-  unfolding verdict_of
-  refused_sizes x e = or_stop (or_else sizes lengths) room x (sym (or_stop sizes lengths x e))
+pick_not : {A : Type 0} (a : Bool) (x y : A) → pick (not a) x y ≡ pick a y x
+unfolding pick
+pick_not true x y = refl
+pick_not false x y = refl
 
-  module _ (fine : minimizer_finder_sizes hits positions (length groups) minimum ≡ Fine) where
-    pub few_groups : length groups ≤ 4096
-    few_groups =
-        let a = lt_fine 61440 hits _ _ fine in
-        let b = lt_fine 61440 positions _ _ a.1 in
-        (lt_fine 4096 (length groups) _ _ b.1).0
+or_pick : (t : Bool) (r : Refusal) (v w : Verdict) → or_else (pick t (Err r) v) w ≡ pick t (Err r) (or_else v w)
+unfolding pick or_else
+or_pick true r v w = refl
+or_pick false r v w = refl
 
-    pub refused_lengths : (x : Refusal) → minimizer_finder_lengths hits positions (sum groups) ≡ No x → No x ≡ verdict_of groups hits positions minimum keys contigs starts ends
-    unfolding verdict_of
-    refused_lengths x e = or_stop (or_else sizes lengths) room x (sym (or_skip sizes lengths (No x) fine (sym e)))
+or_pick_not : (t : Bool) (r : Refusal) (v w : Verdict) → or_else (pick t v (Err r)) w ≡ pick t (or_else v w) (Err r)
+unfolding pick or_else
+or_pick_not true r v w = refl
+or_pick_not false r v w = refl
 
-    pub left_to_needs : (z : Verdict) → minimizer_finder_lengths hits positions (sum groups) ≡ Fine → z ≡ finder_needs hits keys contigs starts ends
-        → z ≡ verdict_of groups hits positions minimum keys contigs starts ends
-    unfolding verdict_of
-    left_to_needs z fine₂ e = or_skip (or_else sizes lengths) room z (sym (or_skip sizes lengths Fine fine (sym fine₂))) e
+or_no : (b : Bool) → (b || false) ≡ b
+or_no true = refl
+or_no false = refl
 
--- The verdict of a whole call.
+eqb_same : (n : ℕ) → eqb n n ≡ true
+eqb_same n = eq-eqb n n refl
+
+pick_true : {A : Type 0} (x y : A) → pick true x y ≡ x
+unfolding pick
+pick_true x y = refl
+
+-- of the minimizer finder's two lists, and of the interval finder's three
+module _ (groups : List ℕ) (hits : ℕ) where
+  minimizer_is : (positions minimum keys contigs starts ends : ℕ) → verdict_of groups hits (hits ∷ positions ∷ []) minimum (keys ∷ contigs ∷ starts ∷ ends ∷ [])
+      ≡ or_else (or_else (minimizer_finder_sizes hits positions (length groups) minimum) (minimizer_finder_lengths hits positions (rules.sum groups))) (finder_needs hits keys contigs starts ends)
+  unfolding verdict_of or_else
+  minimizer_is positions minimum keys contigs starts ends = simp (eqb_same, or_no, pick_or, pick_not, pick_true, or_pick, or_pick_not)
+
+  pub interval_is : (low high minimum keys end_keys contigs starts ends : ℕ) → verdict_of groups hits (hits ∷ low ∷ high ∷ []) minimum (keys ∷ contigs ∷ starts ∷ ends ∷ end_keys ∷ [])
+      ≡ or_else (or_else (interval_finder_sizes hits low high (length groups) minimum) (interval_finder_lengths hits low high (rules.sum groups)))
+      (or_else (finder_needs hits keys contigs starts ends) (end_keys_need hits end_keys))
+  unfolding verdict_of or_else
+  interval_is low high minimum keys end_keys contigs starts ends = simp (eqb_same, or_no, pick_or, pick_not, pick_true, or_pick, or_pick_not)
+
+-- ---- a fine verdict of the minimizer finder
+
+-- what the hits and the lent lists then are
+pub record Passed (f : Finder) (b : FinderLent) : Type 0 where
+  pub accepted : FinderAccepted f.contigs f.starts f.groups f.minimum
+  pub fits : FinderFits (length f.contigs) (length b.keys) (length b.contigs) (length b.starts) (length b.ends)
+
 module _ (f : Finder) (b : FinderLent) where
-  pub verdict_is : verdict_of f.groups (length f.contigs) (length f.starts) f.minimum (length b.keys) (length b.contigs) (length b.starts) (length b.ends)
-      ≡ minimizer_finder_verdict f (finder_room_of b)
-  unfolding verdict_of minimizer_finder_verdict minimizer_finder_input finder_room_of
-  verdict_is = refl
+  abbrev verdict : Verdict
+  verdict = verdict_of f.groups (length f.contigs) (length f.contigs ∷ length f.starts ∷ []) f.minimum (length b.keys ∷ length b.contigs ∷ length b.starts ∷ length b.ends ∷ [])
 
-  module _ (fine : minimizer_finder_verdict f (finder_room_of b) ≡ Fine) where
-    pub fine_keys : length f.contigs ≤ length b.keys
-    unfolding minimizer_finder_verdict finder_room_of
-    fine_keys = (finder_fits (length f.contigs) (length b.keys) (length b.contigs) (length b.starts) (length b.ends) (or_fine _ _ fine).1).keys_fit
+  pub verdict_is : verdict ≡ minimizer_finder_verdict f (finder_room_of b)
+  unfolding minimizer_finder_verdict minimizer_finder_input finder_room_of
+  verdict_is = minimizer_is f.groups (length f.contigs) (length f.starts) f.minimum (length b.keys) (length b.contigs) (length b.starts) (length b.ends)
 
-    pub fine_accepted : Accepted f (take (length f.contigs) b.keys) b.contigs b.starts b.ends
-    unfolding minimizer_finder_verdict finder_room_of
-    fine_accepted =
-        let v = or_fine _ _ fine in
-        let a = minimizer_finder_accepted f.contigs f.starts f.groups f.minimum v.0 in
-        let r = finder_fits (length f.contigs) (length b.keys) (length b.contigs) (length b.starts) (length b.ends) v.1 in
-        let exact : length (take (length f.contigs) b.keys) ≡ length f.contigs = length-take-le (length f.contigs) b.keys r.keys_fit in
-        record {
-          grouped = record { few = a.few_hits; parallel = a.same_starts; all = a.groups_sum; room = omega (arith, exact) };
-          exact = exact;
-          some = a.minimum_is;
-          small = a.minimum_fits;
-          contigs = r.contigs_fit;
-          starts = r.starts_fit;
-          ends = r.ends_fit;
-        }
+  pub passed : Fine ≡ verdict → Passed f b
+  unfolding minimizer_finder_verdict finder_room_of
+  passed e =
+      let v = or_fine _ _ (sym (e ∙ verdict_is)) in
+      record {
+        accepted = minimizer_finder_accepted f.contigs f.starts f.groups f.minimum v.0;
+        fits = finder_fits (length f.contigs) (length b.keys) (length b.contigs) (length b.starts) (length b.ends) v.1;
+      }

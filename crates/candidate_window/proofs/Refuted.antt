@@ -4,7 +4,7 @@ use Prim.Native.Nat.{ℕ}
 use mathlib.Core.Path.{◌≡◌, refl, ap}
 use mathlib.Core.List.{[], ◌∷◌}
 use native.Mathlib.Omega.{arith}
-use Rattle.base.specs.declared.FinderAnswer.{FinderAnswer}
+use Rattle.base.specs.Answers.{FinderAnswer, listed}
 use Rattle.rules.specs.Finder.{Finder}
 use Rattle.rules.specs.Calls.{FinderLent, MinimizerFinderPromise}
 use Rattle.rules.specs.Computes.{computes}
@@ -31,7 +31,7 @@ abbrev dropped : Finder
 dropped = finder_of (2 ∷ 1 ∷ []) (0 ∷ 0 ∷ 0 ∷ []) (5 ∷ 8 ∷ 15 ∷ []) 2 1 10
 
 -- seed hits of dropped groups, or ranges of a group as long as the threshold: one range, and one seed hit
-pub finder_keeps_dropped : (n hits : ℕ) (after : FinderLent) → MinimizerFinderPromise dropped (FinderAnswer.Listed n hits) ones_hits after
+pub finder_keeps_dropped : (n hits : ℕ) (after : FinderLent) → MinimizerFinderPromise dropped (listed n hits) ones_hits after
     → (n ≡ 1) × (hits ≡ 1) × (after.starts ≡ 6 ∷ 9 ∷ 9 ∷ [])
 unfolding computes
 finder_keeps_dropped n hits after p = (ap (value 0) p.answer, ap (value 1) p.answer, p.left.starts)

@@ -1,108 +1,66 @@
-// The checks of a finder, in the order of their numbers; the first that fails gives its number.
-ghost use Rattle.std.specs.Prelude.{◌≡◌, ◌≤◌, length};
-ghost use Rattle.base.specs.Verdicts.{refuse};
+// The checks of a finder, in the order of their numbers; the first that fails gives its reason, which names no element.
+ghost use Rattle.std.specs.Prelude.{◌≡◌, ◌≤◌, not, length, ltb, eqb};
+ghost use Rattle.std.specs.List.{list_any};
 ghost use Rattle.rules.specs.Lists.{sum};
 ghost use Rattle.rules.specs.Limits.{group_limit};
-ghost use Rattle.rules.specs.Checks.{minimizer_finder_sizes, minimizer_finder_lengths, finder_needs};
 ghost use Rattle.candidate_window.specs.Given.{verdict_of};
 
-use base::{Refusal, Verdict};
+use base::{Reason, Refusal};
 
-// A refusal with its number; a finder's have no place.
-pub fn refused(number: u8) -> Verdict
-    ensures { result ≡ refuse number 0 }
-{
-    Verdict::No(Refusal { number, place: 0 })
-}
+// The limits of a call: hits, groups, and the minimum of hits.
+const HITS: usize = 61440;
 
-// 1 and 2, of the lengths of the lists.
-fn check_sizes(contigs: usize, positions: usize, groups: usize, minimum: u32) -> Verdict
-    ensures { result ≡ minimizer_finder_sizes contigs positions groups minimum }
-{
-    if 61440 < contigs {
-        return refused(1);
-    }
-    if 61440 < positions {
-        return refused(1);
-    }
-    if 4096 < groups {
-        return refused(1);
-    }
-    if minimum == 0 {
-        return refused(2);
-    }
-    if 2147483647 < minimum {
-        return refused(2);
-    }
-    Verdict::Fine
-}
+const GROUPS: usize = 4096;
+
+const MINIMUM: u32 = 2147483647;
 
 // The sum of the group lengths, which passes 32 bits where the groups are not those of the hits.
-pub fn total(groups: &[u32]) -> u64
+fn total(groups: &[u32]) -> u64
     requires { length groups.now ≤ group_limit }
     ensures { result ≡ sum groups.now }
 {
-    let mut sum: u64 = 0;
-    let mut g = 0;
-    while g < groups.len() {
-        sum += groups[g] as u64;
-        g += 1;
-    }
-    sum
+    groups.iter().map(|group| u64::from(*group)).sum()
 }
 
-// 3.
-fn check_lengths(contigs: usize, positions: usize, total: u64) -> Verdict
-    ensures { result ≡ minimizer_finder_lengths contigs positions total }
+fn any_above(lengths: &[usize], limit: usize) -> bool
+    ensures { result ≡ list_any (λ n. ltb limit n) lengths.now }
 {
-    if contigs != positions {
-        return refused(3);
-    }
-    if total != contigs as u64 {
-        return refused(3);
-    }
-    Verdict::Fine
+    lengths.iter().any(|n| limit < *n)
 }
 
-// 8, of the lengths of the lent lists.
-pub fn check_needs(hits: usize, keys: usize, contigs: usize, starts: usize, ends: usize) -> Verdict
-    ensures { result ≡ finder_needs hits keys contigs starts ends }
+fn any_below(lengths: &[usize], hits: usize) -> bool
+    ensures { result ≡ list_any (λ n. ltb n hits) lengths.now }
 {
-    if keys < hits {
-        return refused(8);
-    }
-    if contigs < hits {
-        return refused(8);
-    }
-    if starts < hits {
-        return refused(8);
-    }
-    if ends < hits {
-        return refused(8);
-    }
-    Verdict::Fine
+    lengths.iter().any(|n| *n < hits)
 }
 
-// All of them; of all lists but the groups the lengths.
+fn any_other(lengths: &[usize], hits: usize) -> bool
+    ensures { result ≡ list_any (λ n. not (eqb hits n)) lengths.now }
+{
+    lengths.iter().any(|n| hits != *n)
+}
+
+// Of the parallel lists of hits and of the lent lists the lengths: each parallel list has as many as there are hits, each lent one no fewer.
+#[tactic(auto, using(base::proofs::Checks::checks), unfolding(crate::specs::Given::verdict_of))]
 pub fn check(
     groups: &[u32],
     hits: usize,
-    positions: usize,
+    parallel: &[usize],
     minimum: u32,
-    keys: usize,
-    contigs: usize,
-    starts: usize,
-    ends: usize,
-) -> Verdict
-    ensures { result ≡ verdict_of groups.now hits positions minimum keys contigs starts ends }
+    lent: &[usize],
+) -> Result<(), Refusal>
+    ensures { result ≡ verdict_of groups.now hits parallel.now minimum lent.now }
 {
-    let sizes = check_sizes(hits, positions, groups.len(), minimum);
-    if let Verdict::No(refusal) = sizes {
-        return Verdict::No(refusal);
-    }
-    let lengths = check_lengths(hits, positions, total(groups));
-    if let Verdict::No(refusal) = lengths {
-        return Verdict::No(refusal);
-    }
-    check_needs(hits, keys, contigs, starts, ends)
+    let reason = if any_above(parallel, HITS) || GROUPS < groups.len() {
+        Reason::TooLarge
+    } else if minimum == 0 || MINIMUM < minimum {
+        Reason::BadSetting
+    } else if any_other(parallel, hits) || total(groups) != hits as u64 {
+        Reason::UnequalLengths
+    } else if any_below(lent, hits) {
+        Reason::ShortBuffer
+    } else {
+        return Ok(());
+    };
+    Err(Refusal { reason, place: 0 })
 }

@@ -2,5 +2,4 @@ pub mod Filling
 pub mod Union
 pub mod Marks
 pub mod Ranks
-pub mod Placing
 pub mod Walk

@@ -15,8 +15,8 @@ use Rattle.base.specs.Pick.{pick}
 use Rattle.base.specs.Lists.{All, StrictAsc}
 use Rattle.base.specs.Buffers.{over}
 use Rattle.base.proofs.Buffers.{length_over, over_in, over_out}
-use Rattle.base.proofs.Lists.{all_at, all_map, map_at, map-take}
-use Rattle.base.proofs.Order.{lt_or_ge, eq_or_ne}
+use Rattle.base.proofs.Lists.{all_map, map_at, map-take}
+use Rattle.std.proofs.lemmas.Bool.{cases_lt, cases_eq}
 use Rattle.rules.specs.Lists.{member}
 use Rattle.rules.specs.Score.{union, number_of}
 use Rattle.rules.proofs.Score.{at_number, number_at, number_fits, member_all, strict_union, union_left, length_union}
@@ -38,14 +38,14 @@ marked_at ws [] j l = refl
 marked_at ws (i ∷ is) j l =
     marked_at (set ws i 1) is j (omega (arith, length-set ws i 1))
     ∙ ⊎_elim (λ (e : j ≡ i). rw (eq-eqb j i e, e, get_or-set_same ws i 1 0 (omega arith)) (pick_both (member i is) 1))
-    (λ (n : j ≢ i). rw (ne_eqb j i n, get_or-set_other ws i j 1 0 n)) (eq_or_ne j i)
+    (λ (n : j ≢ i). rw (ne_eqb j i n, get_or-set_other ws i j 1 0 n)) (cases_eq j i)
 
 module _ (coords : List ℕ) (strict : StrictAsc coords) where
   same_place : (h : ℕ) → member h coords ≡ true → (i : ℕ) → i < length coords → eqb i (number_of coords h) ≡ eqb (get_or coords i 0) h
   same_place h m i l =
       ⊎_elim (λ (e : i ≡ number_of coords h). eq-eqb i (number_of coords h) e ∙ sym (eq-eqb (get_or coords i 0) h (ap (λ (n : ℕ). get_or coords n 0) e ∙ at_number coords strict h m)))
       (λ (n : i ≢ number_of coords h). ne_eqb i (number_of coords h) n ∙ sym (ne_eqb (get_or coords i 0) h (λ e. n (sym (number_at coords strict i l) ∙ ap (number_of coords) e))))
-      (eq_or_ne i (number_of coords h))
+      (cases_eq i (number_of coords h))
 
   -- a place is the number of a query hash exactly where its coordinate is one
   member_numbers : (query : List ℕ) → All (λ h. member h coords ≡ true) query → (i : ℕ) → i < length coords
@@ -80,7 +80,7 @@ module _ (coords : List ℕ) (strict : StrictAsc coords) where
       ∙ ⊎_elim
       (λ (b : i < length coords).
       rw (member_numbers query a i b, get_or-replicate {A = ℕ} m i 0 0 (omega arith)) (sym (over_in fs zs 0 i (omega arith) ∙ map_at (λ c. pick (member c query) 1 0) coords i 0 0 b)))
-      (λ (b : length coords ≤ i). rw (member_past is (numbers_fit query a) i b) (sym (over_out fs zs 0 i (omega arith)))) (lt_or_ge i (length coords)))
+      (λ (b : length coords ≤ i). rw (member_past is (numbers_fit query a) i b) (sym (over_out fs zs 0 i (omega arith)))) (cases_lt i (length coords)))
 
 -- the call: the query's numbers stand first
 
@@ -116,13 +116,7 @@ pub record Marking (entry is ws : List ℕ) (j : ℕ) : Type 0 where
   pub kept : length ws ≡ length entry
   pub rest : marked ws (drop j is) ≡ marked entry is
 
-pub marking_start : (entry is : List ℕ) → Marking entry is entry 0
-marking_start entry is = record { upto = omega arith; kept = refl; rest = refl }
-
 module _ {entry is ws : List ℕ} {j : ℕ} (m : Marking entry is ws j) where
-  pub marking_fits : All (λ i. i < length entry) is → j < length is → get_or is j 0 < length ws
-  marking_fits a l = omega (arith, all_at (λ i. i < length entry) is a j l, m.kept)
-
   pub marking_step : j < length is → Marking entry is (set ws (get_or is j 0) 1) (j + 1)
   unfolding marked
   marking_step l = record {

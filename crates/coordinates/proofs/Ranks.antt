@@ -8,7 +8,7 @@ use native.Mathlib.Omega.{arith}
 use lib.ListN.{length, get_or}
 use Rattle.base.specs.Lists.{StrictAsc}
 use Rattle.base.proofs.Lists.{strict_at, strict_asc, asc_at}
-use Rattle.base.proofs.Order.{lt_or_ge}
+use Rattle.std.proofs.lemmas.Bool.{cases_lt}
 use Rattle.rules.specs.Lists.{member}
 use Rattle.rules.specs.Score.{number_of}
 use Rattle.rules.proofs.Score.{get_or-member, at_number, number_fits}
@@ -39,4 +39,4 @@ module _ (cs : List ℕ) (strict : StrictAsc cs) where
       ⊎_elim
       (λ (l : i + 1 < length cs). absurd (omega (arith, strict_at cs strict i (i + 1) (omega arith) l, a (get_or cs (i + 1) 0) (get_or-member cs (i + 1) l))))
       (λ (l : length cs ≤ i + 1). omega arith)
-      (lt_or_ge (i + 1) (length cs))
+      (cases_lt (i + 1) (length cs))

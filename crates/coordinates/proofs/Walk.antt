@@ -14,7 +14,7 @@ use borrow.Author.Tests.{eq-eqb, ne_eqb, ltb-true}
 use Rattle.base.specs.Pick.{pick}
 use Rattle.base.specs.Lists.{times}
 use Rattle.base.proofs.Lists.{times_find, map_at}
-use Rattle.base.proofs.Order.{lt_or_ge, eq_or_ne}
+use Rattle.std.proofs.lemmas.Bool.{cases_lt, cases_eq}
 use Rattle.rules.specs.Lists.{member}
 use Rattle.rules.specs.Score.{union, number_of}
 use Rattle.rules.proofs.Score.{member-ascending, member-times, get_or-member, strict_union}
@@ -90,7 +90,7 @@ module _ (query hashes keys : List ℕ) (p : Places query hashes keys) where
     not_first : (x : ℕ) → x ≡ hash_of query hashes keys j → x ≢ prev → 0 < j
     not_first x e n =
         ⊎_elim (λ (m : 0 < j). m)
-        (λ (m : j ≤ 0). let z : j ≡ j - 1 = omega arith in absurd (n (e ∙ ap (hash_of query hashes keys) z ∙ sym w.last))) (lt_or_ge 0 j)
+        (λ (m : j ≤ 0). let z : j ≡ j - 1 = omega arith in absurd (n (e ∙ ap (hash_of query hashes keys) z ∙ sym w.last))) (cases_lt 0 j)
 
     -- the hash before it is a coordinate, and none lies between
     number_other : (x : ℕ) → x ≡ hash_of query hashes keys j → Rising query hashes keys (length keys) → x ≢ prev → number_of (union query hashes) x ≡ number_of (union query hashes) prev + 1
@@ -102,13 +102,13 @@ module _ (query hashes keys : List ℕ) (p : Places query hashes keys) where
         (omega arith)
         (λ h m b.
         let t = key_of h m in
-        ⊎_elim (λ (a : t.0 < j). absurd (omega (arith, up t.0 (j - 1) (omega arith) (omega arith), t.2))) (λ (a : j ≤ t.0). omega (arith, up j t.0 a t.1, t.2)) (lt_or_ge t.0 j))
+        ⊎_elim (λ (a : t.0 < j). absurd (omega (arith, up t.0 (j - 1) (omega arith) (omega arith), t.2))) (λ (a : j ≤ t.0). omega (arith, up j t.0 a t.1, t.2)) (cases_lt t.0 j))
 
     number_step : (x : ℕ) → x ≡ hash_of query hashes keys j → Rising query hashes keys (length keys) → c + pick (eqb x prev) 0 1 ≡ number_of (union query hashes) x
     unfolding pick
     number_step x e up =
         ⊎_elim (λ (s : x ≡ prev). rw (eq-eqb x prev s, add-zero c) (w.number up ∙ ap (number_of (union query hashes)) (sym s)))
-        (λ (s : x ≢ prev). rw (ne_eqb x prev s) (omega (arith, w.number up, number_other x e up s))) (eq_or_ne x prev)
+        (λ (s : x ≢ prev). rw (ne_eqb x prev s) (omega (arith, w.number up, number_other x e up s))) (cases_eq x prev)
 
     pub walk_step : (x : ℕ) → x ≡ hash_of query hashes keys j → prev ≤ x → (next : ℕ) → next ≡ c + pick (eqb x prev) 0 1
         → Walk query hashes keys (set coords (place_of (get_or keys j 0)) next) x next (j + 1)
@@ -130,7 +130,7 @@ module _ (query hashes keys : List ℕ) (p : Places query hashes keys) where
               ∙ ap (number_of (union query hashes)) (e ∙ ap (λ (n : ℕ). get_or (query ++ hashes) n 0) (sym s)))
               (λ (s : place_of (get_or keys t 0) ≢ here).
               get_or-set_other coords here (place_of (get_or keys t 0)) next 0 s
-              ∙ w.written up t (earlier t m s)) (eq_or_ne (place_of (get_or keys t 0)) here);
+              ∙ w.written up t (earlier t m s)) (cases_eq (place_of (get_or keys t 0)) here);
         }
       where
         earlier : (t : ℕ) → t < j + 1 → place_of (get_or keys t 0) ≢ place_of (get_or keys j 0) → t < j

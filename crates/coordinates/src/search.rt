@@ -1,47 +1,37 @@
 // Coordinates by sorting the hashes, leaving their repeats out, and looking each hash up: right for all inputs.
-ghost use Rattle.std.specs.Prelude.{◌≡◌, ◌++◌, map, ◌+◌, ◌<◌, ◌≤◌, length, get_or};
+ghost use Rattle.std.specs.Prelude.{◌≡◌, ◌++◌, map, ◌+◌, ◌≤◌, length};
 ghost use Rattle.base.specs.Lists.{Asc};
 ghost use Rattle.rules.specs.Score.{number_of};
 ghost use Rattle.coordinates.specs.Coordinates.{Lent, Numbered};
 
-// The hash at i of the query with the items' hashes behind it.
-pub fn hash_at(query: &[u64], hashes: &[u64], i: usize) -> u64
-    requires { i < length query.now + length hashes.now }
-    ensures { result ≡ get_or (query.now ++ hashes.now) i 0 }
+use super::joined::Hashes;
+
+fn gather(hashes: Hashes<'_>, keys: &mut [u64])
+    requires { length keys.old ≡ length hashes.query.now + length hashes.items.now }
+    ensures { keys.new ≡ hashes.entry.query.now ++ hashes.entry.items.now }
 {
-    let k = query.len();
-    if i < k {
-        return query[i];
-    }
-    hashes[i - k]
+    let k = hashes.query.len();
+    keys[..k].copy_from_slice(hashes.query);
+    keys[k..].copy_from_slice(hashes.items);
 }
 
-fn gather(query: &[u64], hashes: &[u64], keys: &mut [u64])
-    requires { length keys.old ≡ length query.now + length hashes.now }
-    ensures { keys.new ≡ query.now ++ hashes.now }
-{
-    for i in 0..keys.len() {
-        keys[i] = hash_at(query, hashes, i);
-    }
-}
-
-// The number of each hash among these coordinates.
-fn look_up(query: &[u64], hashes: &[u64], among: &[u64], coords: &mut [u32])
-    requires { Asc among.now × (length among.now ≤ 65536) × (length coords.old ≡ length query.now + length hashes.now) }
-    ensures { coords.new ≡ map (number_of among.now) (query.now ++ hashes.now) }
+// The number of each hash among these coordinates. By index: what is written through an iterator is not known to the proof afterwards.
+fn look_up(hashes: Hashes<'_>, among: &[u64], coords: &mut [u32])
+    requires { Asc among.now × (length among.now ≤ 65536) × (length coords.old ≡ length hashes.query.now + length hashes.items.now) }
+    ensures { coords.new ≡ map (number_of among.now) (hashes.entry.query.now ++ hashes.entry.items.now) }
 {
     for i in 0..coords.len() {
-        let h = hash_at(query, hashes, i);
-        coords[i] = keys::count_below(among, h) as u32;
+        coords[i] = keys::count_below(among, hashes.at(i)) as u32;
     }
 }
 
-pub fn number(query: &[u64], hashes: &[u64], keys: &mut [u64], coords: &mut [u32]) -> usize
-    requires { Lent query.now hashes.now keys.old coords.old }
-    ensures { Numbered query.now hashes.now coords.new result }
+// Numbers all hashes and returns how many coordinates there are.
+pub fn number(hashes: Hashes<'_>, keys: &mut [u64], coords: &mut [u32]) -> usize
+    requires { Lent hashes.query.now hashes.items.now keys.old coords.old }
+    ensures { Numbered hashes.entry.query.now hashes.entry.items.now coords.new result }
 {
-    gather(query, hashes, keys);
+    gather(hashes, keys);
     let n = keys::distinct(keys);
-    look_up(query, hashes, &keys[..n], coords);
+    look_up(hashes, &keys[..n], coords);
     n
 }

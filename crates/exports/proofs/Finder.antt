@@ -2,21 +2,12 @@
 use mathlib.Core.Path.{◌≡◌, ap, ◌∙◌}
 use mathlib.Core.List.{List}
 use Prim.Native.Nat.{ℕ}
-use Rattle.base.specs.declared.Refusal.{Refusal}
-use Rattle.base.specs.declared.FinderAnswer.{FinderAnswer}
+use Rattle.base.specs.Answers.{FinderAnswer}
 use Rattle.rules.specs.Finder.{Finder}
-use Rattle.rules.specs.Told.{told_refused, told_done, told_finder}
+use Rattle.rules.specs.Told.{told_finder}
 use Rattle.rules.specs.Calls.{FinderLent, MinimizerFinderPromise, IntervalFinderPromise}
 use Rattle.exports.specs.declared.finders.FinderOut.{FinderOut}
 use Rattle.exports.specs.Finder.{finder_out_of, MinimizerFinderExported, IntervalFinderExported}
-
-pub finder_refused : (a : FinderAnswer) (r : Refusal) → a ≡ FinderAnswer.Refused r → record { number = r.number; place = r.place; count = 0; hits = 0 } ≡ finder_out_of (told_finder a)
-unfolding finder_out_of told_finder told_refused
-finder_refused a r e = rw e
-
-pub finder_listed : (a : FinderAnswer) (count hits : ℕ) → a ≡ FinderAnswer.Listed count hits → record { number = 0; place = 0; count = count; hits = hits } ≡ finder_out_of (told_finder a)
-unfolding finder_out_of told_finder told_done
-finder_listed a count hits e = rw e
 
 pub minimizer_finder_exported : {f : Finder} {a : FinderAnswer} {r : FinderOut} {before after : FinderLent} → r ≡ finder_out_of (told_finder a) → MinimizerFinderPromise f a before after → MinimizerFinderExported f r before after
 minimizer_finder_exported e promise = record { answer = e ∙ ap finder_out_of promise.answer; left = promise.left }

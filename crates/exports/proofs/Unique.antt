@@ -4,7 +4,7 @@ use mathlib.Core.Path.{◌≡◌, refl, ap, sym, ◌∙◌}
 use mathlib.Core.List.{List}
 use Prim.Native.Nat.{ℕ}
 use lib.ListN.{length}
-use Rattle.base.specs.declared.SweepAnswer.{SweepAnswer}
+use Rattle.base.specs.Answers.{SweepAnswer}
 use Rattle.rules.specs.Script.{Script}
 use Rattle.rules.specs.Sweep.{Sweep}
 use Rattle.rules.specs.Finder.{Finder}

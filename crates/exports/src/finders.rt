@@ -5,11 +5,11 @@ ghost use Rattle.candidate_window.specs.Given.{finder_of, lent_of};
 ghost use Rattle.candidate_intervals.specs.Given as intervals;
 ghost use Rattle.exports.specs.Finder.{finder_out_of, MinimizerFinderExported, IntervalFinderExported};
 
-use base::FinderAnswer;
+use base::{Finding, Refusal};
 
 // Number 0: done, at place 0, with the count of candidates and the seed hits. Any other number: refused at that place, and both are 0.
 #[repr(C)]
-#[derive(Clone, Copy)]
+#[derive(Clone, Copy, Default)]
 pub struct FinderOut {
     pub number: u32,
     pub place: u32,
@@ -17,25 +17,28 @@ pub struct FinderOut {
     pub hits: u32,
 }
 
-fn told_finder(answer: FinderAnswer) -> FinderOut
-    ensures { result ≡ finder_out_of (told_finder answer) }
-{
-    match answer {
-        FinderAnswer::Refused(refusal) => FinderOut {
-            number: refusal.number as u32,
-            place: refusal.place,
-            count: 0,
-            hits: 0,
-        },
-        FinderAnswer::Listed(count, hits) => FinderOut {
-            number: 0,
-            place: 0,
-            count,
-            hits,
-        },
+impl From<Result<Finding, Refusal>> for FinderOut {
+    ghost from_gives = { λ answer out. out ≡ finder_out_of (told_finder answer) };
+
+    #[tactic(auto, unfolding(crate::specs::Finder::finder_out_of, rules::specs::Told::told_finder, rules::specs::Told::told_refused, rules::specs::Told::told_done))]
+    fn from(answer: Result<Finding, Refusal>) -> Self {
+        match answer {
+            Err(refusal) => FinderOut {
+                number: u32::from(refusal.reason.number()),
+                place: refusal.place,
+                ..FinderOut::default()
+            },
+            Ok(Finding { count, hits }) => FinderOut {
+                number: 0,
+                place: 0,
+                count,
+                hits,
+            },
+        }
     }
 }
 
+#[tactic(auto, using(crate::proofs::Finder::minimizer_finder_exported))]
 #[unsafe(no_mangle)]
 pub extern "C" fn kelonbaro_minimizer_finder(
     groups: &[u32],
@@ -51,11 +54,12 @@ pub extern "C" fn kelonbaro_minimizer_finder(
 ) -> FinderOut
     ensures { MinimizerFinderExported (finder_of groups.now contigs.now positions.now threshold minimum length) result (lent_of keys.old seqs.old lows.old highs.old) (lent_of keys.new seqs.new lows.new highs.new) }
 {
-    told_finder(candidate_window::minimizer_finder(
+    FinderOut::from(candidate_window::minimizer_finder(
         groups, contigs, positions, threshold, minimum, length, keys, seqs, lows, highs,
     ))
 }
 
+#[tactic(auto, using(crate::proofs::Finder::interval_finder_exported))]
 #[unsafe(no_mangle)]
 pub extern "C" fn kelonbaro_interval_finder(
     groups: &[u32],
@@ -72,7 +76,7 @@ pub extern "C" fn kelonbaro_interval_finder(
 ) -> FinderOut
     ensures { IntervalFinderExported (intervals.finder_of groups.now contigs.now starts.now ends.now threshold minimum) result (lent_of opens.old seqs.old lows.old highs.old) (lent_of opens.new seqs.new lows.new highs.new) closes.old closes.new }
 {
-    told_finder(candidate_intervals::interval_finder(
+    FinderOut::from(candidate_intervals::interval_finder(
         groups, contigs, starts, ends, threshold, minimum, opens, closes, seqs, lows, highs,
     ))
 }

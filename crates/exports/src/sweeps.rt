@@ -6,12 +6,12 @@ ghost use Rattle.minimizer_sweep.specs.Given.{lent_of};
 ghost use Rattle.interval_sweep.specs.Given as intervals;
 ghost use Rattle.exports.specs.Sweep.{sweep_out_of, MinimizerExported, IntervalExported};
 
-use base::{Range, Settings, SweepAnswer};
+use base::{Outcome, Range, Refusal, Settings};
 
 // Number 0: done, at place 0, with the statistics; found is 1 where there is a place, else 0 with all that a place has. Any other number:
 // refused at that place, and all else is 0.
 #[repr(C)]
-#[derive(Clone, Copy)]
+#[derive(Clone, Copy, Default)]
 pub struct SweepOut {
     pub number: u32,
     pub place: u32,
@@ -27,55 +27,47 @@ pub struct SweepOut {
     pub items: u32,
 }
 
-fn told_sweep(answer: SweepAnswer) -> SweepOut
-    ensures { result ≡ sweep_out_of (told_sweep answer) }
-{
-    match answer {
-        SweepAnswer::Refused(refusal) => SweepOut {
-            number: refusal.number as u32,
-            place: refusal.place,
-            found: 0,
-            start: 0,
-            end: 0,
-            shared: 0,
-            size: 0,
-            identity: 0.0,
-            upper: 0.0,
-            windows: 0,
-            coords: 0,
-            items: 0,
-        },
-        SweepAnswer::Nothing(stats) => SweepOut {
-            number: 0,
-            place: 0,
-            found: 0,
-            start: 0,
-            end: 0,
-            shared: 0,
-            size: 0,
-            identity: 0.0,
-            upper: 0.0,
-            windows: stats.windows,
-            coords: stats.coords,
-            items: stats.items,
-        },
-        SweepAnswer::Placed(at, stats) => SweepOut {
-            number: 0,
-            place: 0,
-            found: 1,
-            start: at.start.0,
-            end: at.end.0,
-            shared: at.shared,
-            size: at.size,
-            identity: at.estimate.identity,
-            upper: at.estimate.upper,
-            windows: stats.windows,
-            coords: stats.coords,
-            items: stats.items,
-        },
+impl From<Result<Outcome, Refusal>> for SweepOut {
+    ghost from_gives = { λ answer out. out ≡ sweep_out_of (told_sweep answer) };
+
+    #[tactic(auto, unfolding(crate::specs::Sweep::sweep_out_of, crate::specs::Sweep::sweep_fields, rules::specs::Told::told_sweep, rules::specs::Told::told_refused, rules::specs::Told::told_done))]
+    fn from(answer: Result<Outcome, Refusal>) -> Self {
+        match answer {
+            Err(refusal) => SweepOut {
+                number: u32::from(refusal.reason.number()),
+                place: refusal.place,
+                ..SweepOut::default()
+            },
+            Ok(Outcome { place: None, stats }) => SweepOut {
+                windows: stats.windows,
+                coords: stats.coords,
+                items: stats.items,
+                ..SweepOut::default()
+            },
+            Ok(
+                Outcome {
+                    place: Some(at),
+                    stats,
+                },
+            ) => SweepOut {
+                number: 0,
+                place: 0,
+                found: 1,
+                start: at.start.0,
+                end: at.end.0,
+                shared: at.shared,
+                size: at.size,
+                identity: at.estimate.identity,
+                upper: at.estimate.upper,
+                windows: stats.windows,
+                coords: stats.coords,
+                items: stats.items,
+            },
+        }
     }
 }
 
+#[tactic(auto, using(crate::proofs::Sweep::minimizer_exported))]
 #[unsafe(no_mangle)]
 pub extern "C" fn kelonbaro_minimizer_sweep(
     kmer: u32,
@@ -97,7 +89,7 @@ pub extern "C" fn kelonbaro_minimizer_sweep(
 ) -> SweepOut
     ensures { MinimizerExported (sweep_of (record { kmer = kmer; length = length }) window (record { start = start; end = end }) query.now hashes.now positions.now identities.now uppers.now minimum) result (lent_of keys.old counts.old coords.old words.old summary.old) (lent_of keys.new counts.new coords.new words.new summary.new) }
 {
-    told_sweep(minimizer_sweep::minimizer_sweep(
+    SweepOut::from(minimizer_sweep::minimizer_sweep(
         Settings { kmer, length },
         window,
         Range { start, end },
@@ -115,6 +107,7 @@ pub extern "C" fn kelonbaro_minimizer_sweep(
     ))
 }
 
+#[tactic(auto, using(crate::proofs::Sweep::interval_exported))]
 #[unsafe(no_mangle)]
 pub extern "C" fn kelonbaro_interval_sweep(
     kmer: u32,
@@ -137,7 +130,7 @@ pub extern "C" fn kelonbaro_interval_sweep(
 ) -> SweepOut
     ensures { IntervalExported (intervals.sweep_of query.now hashes.now starts.now ends.now (record { kmer = kmer; length = length }) (record { start = start; end = end }) identities.now uppers.now minimum) result (intervals.lent_of keys.old counts.old coords.old words.old summary.old) (intervals.lent_of keys.new counts.new coords.new words.new summary.new) events.old events.new }
 {
-    told_sweep(interval_sweep::interval_sweep(
+    SweepOut::from(interval_sweep::interval_sweep(
         Settings { kmer, length },
         Range { start, end },
         query,

@@ -4,12 +4,12 @@ use mathlib.Core.Path.{◌≡◌, refl, sym, ◌∙◌, subst}
 use mathlib.Core.Bool.{Bool, true, false, not}
 use borrow.Author.Tests.{lt-ltb, le-ltb}
 use lib.Dec.{T}
-use lib.Ieee.{Float, nan, inf, fin, binary64, of_bits, div, is_nan, nan_bits, ne}
+use lib.Ieee.{Float, nan, inf, fin, binary64, of_bits, is_nan, nan_bits, ne}
 use lib.Ieee.Bits.{nan_bits_is, nan_bits_above}
 
--- 0.0 / 0.0
-pub made : div binary64 (of_bits binary64 0) (of_bits binary64 0) ≡ nan
-unfolding div of_bits
+-- `f64::NAN`
+pub made : of_bits binary64 0x7ff8_0000_0000_0000 ≡ nan
+unfolding of_bits
 made = refl
 
 only : (x : Float) → is_nan x ≡ true → x ≡ nan
@@ -23,9 +23,3 @@ above n h = only _ (sym (nan_bits_is binary64 n) ∙ nan_bits_above binary64 n �
 
 pub below : (n : ℕ) → n % 0x8000_0000_0000_0000 ≤ 0x7ff0_0000_0000_0000 → T (not (nan_bits binary64 n))
 below n h = subst (λ (b : Bool). T (not b)) (sym (nan_bits_above binary64 n ∙ le-ltb _ _ h)) tt
-
-pub equals_itself : (x : Float) → ne x x ≡ false → T (not (is_nan x))
-unfolding is_nan ne
-equals_itself nan e = absurd (subst T e tt)
-equals_itself (inf s) e = tt
-equals_itself (fin s m k) e = tt

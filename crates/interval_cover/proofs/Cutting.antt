@@ -11,7 +11,8 @@ use borrow.Author.Tests.{lt-ltb, le-ltb}
 use Rattle.base.specs.Pick.{pick}
 use Rattle.base.specs.Lists.{Asc}
 use Rattle.base.proofs.Lists.{asc_at}
-use Rattle.base.proofs.Order.{lt_or_ge, le_or_le}
+use Rattle.std.proofs.lemmas.Bool.{cases_lt}
+use Rattle.base.proofs.Order.{le_or_le}
 use Rattle.keys.specs.Lists.{below}
 use Rattle.keys.proofs.Searching.{below_is}
 use Rattle.interval_cover.specs.Cover.{Cut}
@@ -64,11 +65,11 @@ module _ (opens closes : List ℕ) (i j : ℕ) where
   next_open_le l = omega (arith, next_both l)
 
   pub next_close_le : next_key opens closes i j ≤ get_or closes j 0
-  next_close_le = ⊎_elim (λ (l : i < length opens). omega (arith, next_both l)) (λ (l : length opens ≤ i). omega (arith, next_close l)) (lt_or_ge i (length opens))
+  next_close_le = ⊎_elim (λ (l : i < length opens). omega (arith, next_both l)) (λ (l : length opens ≤ i). omega (arith, next_close l)) (cases_lt i (length opens))
 
   -- it is a start or an end
   pub next_is : (next_key opens closes i j ≡ get_or closes j 0) ⊎ ((i < length opens) × (next_key opens closes i j ≡ get_or opens i 0))
-  next_is = ⊎_elim both (λ (l : length opens ≤ i). inl (next_close l)) (lt_or_ge i (length opens))
+  next_is = ⊎_elim both (λ (l : length opens ≤ i). inl (next_close l)) (cases_lt i (length opens))
     where
       both : i < length opens → (next_key opens closes i j ≡ get_or closes j 0) ⊎ ((i < length opens) × (next_key opens closes i j ≡ get_or opens i 0))
       both l =

@@ -1,4 +1,3 @@
-pub mod Holding
 pub mod Cutting
 pub mod Events
 pub mod Sweeping

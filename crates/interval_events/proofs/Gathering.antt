@@ -12,6 +12,7 @@ use Rattle.base.specs.Lists.{Asc}
 use Rattle.base.specs.Sort.{sort_of}
 use Rattle.base.proofs.Sort.{length_sort, asc_sort, sort_sort, sort_append}
 use Rattle.rules.specs.Interval.{event_key}
+use Rattle.interval_events.specs.declared.intervals.Intervals.{Intervals}
 use Rattle.interval_events.specs.Events.{kept, keys_of, Front, Numbered, turns, Apart, Merged, Local}
 
 -- answers at the front are within the list
@@ -21,19 +22,15 @@ front_fits {answers} {out} {r} f = omega (arith, length-take r out, ap length f.
 pub front_long : {answers out : List ℕ} {r : ℕ} → Front answers out r → r ≡ length (take r out)
 front_long {answers} {out} {r} f = sym (length-take-le r out (front_fits f))
 
--- the front, sorted
-pub front_sorted : {answers out : List ℕ} {r : ℕ} → Front answers out r → (part : List ℕ) → part ≡ sort_of (take r out) → Front (sort_of answers) (part ++ drop r out) r
-front_sorted {answers} {out} {r} f part e =
-    let same : part ≡ sort_of answers = e ∙ ap sort_of f.are in
-    let long : length part ≡ r = ap length same ∙ length_sort answers ∙ sym f.many in
-    record { many = f.many ∙ sym (length_sort answers); are = take_at part (drop r out) r long ∙ same }
-
 -- answers at the front of a part that begins at b
 pub front_behind : {answers ys : List ℕ} {r : ℕ} (xs zs : List ℕ) (b : ℕ) → b ≤ length xs → Front answers ys r → Front answers (drop b (take b xs ++ (ys ++ zs))) r
 front_behind {answers} {ys} {r} xs zs b l f = record {
   many = f.many;
   are = ap (take r) (drop_at (take b xs) (ys ++ zs) b (length-take-le b xs l)) ∙ take-append-le r ys zs (front_fits f) ∙ f.are;
 }
+
+pub behind_room : (xs rest : List ℕ) {b : ℕ} → b ≤ length xs → b ≤ length (take b xs ++ rest)
+behind_room xs rest {b} l = omega (arith, length-append (take b xs) rest, length-take-le b xs l)
 
 -- there are no more keys than numbers
 one_most : (b : Bool) (k : ℕ) → length (pick b (k ∷ []) []) ≤ 1
@@ -95,12 +92,20 @@ kept_many from (e ∷ es) (x ∷ xs) [] l m = absurd (omega arith)
 kept_many from (e ∷ es) (x ∷ xs) (y ∷ ys) l m =
     omega (arith, length-append (pick (ltb from e) (x ∷ []) []) (kept from es xs), length-append (pick (ltb from e) (y ∷ []) []) (kept from es ys), pick-length (ltb from e) x, pick-length (ltb from e) y, kept_many from es xs ys (omega arith) (omega arith))
 
-module _ {from to : ℕ} {starts ends numbers keys out : List ℕ} (asked : Local from to starts ends numbers keys out) where
-  pub local_ends : Numbered 0 from ends ends numbers keys
+module _ {from to : ℕ} {xs : Intervals} {numbers keys out : List ℕ} (asked : Local from to xs numbers keys out) where
+  abbrev starts : List ℕ
+  starts = xs.starts.now
+
+  abbrev ends : List ℕ
+  ends = xs.ends.now
+
+  same : length ends ≡ length starts
+  same = xs.same_ends ∙ sym xs.same_starts
+
+  pub local_ends : Numbered from ends ends numbers keys
   local_ends = record {
-    two = omega arith;
     parallel = refl;
-    taken = asked.taken ∙ kept_many from ends starts ends asked.parallel refl;
+    taken = asked.taken ∙ kept_many from ends starts ends same refl;
     room = asked.key_room;
   }
 
@@ -108,5 +113,8 @@ module _ {from to : ℕ} {starts ends numbers keys out : List ℕ} (asked : Loca
     pub local_few : b ≤ length numbers
     local_few = omega (arith, f.many, length_sort (keys_of 0 from to (kept from ends ends) numbers), keys_few 0 from to (kept from ends ends) numbers)
 
-    pub local_starts : Numbered 1 from starts ends numbers (drop b out) × (b ≤ length out)
-    local_starts = (record { two = omega arith; parallel = asked.parallel; taken = asked.taken; room = omega (arith, local_few, asked.room, length-drop b out) }, omega (arith, local_few, asked.room))
+    pub local_room : b ≤ length out
+    local_room = omega (arith, local_few, asked.room)
+
+    pub local_starts : (part : List ℕ) → part ≡ drop b out → Numbered from starts ends numbers part
+    local_starts part e = record { parallel = same; taken = asked.taken; room = omega (arith, local_few, asked.room, length-drop b out, ap length e) }

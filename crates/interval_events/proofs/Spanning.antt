@@ -13,7 +13,7 @@ use lib.Seq.{get_or-set_same, get_or-set_other, drop-cons, take-suc}
 use borrow.Author.Tests.{eq-eqb, ne_eqb}
 use Rattle.base.specs.Pick.{pick}
 use Rattle.base.specs.Lists.{All}
-use Rattle.base.proofs.Order.{lt_or_ge, eq_or_ne}
+use Rattle.std.proofs.lemmas.Bool.{cases_lt, cases_eq}
 use Rattle.rules.specs.Limits.{item_limit}
 use Rattle.rules.specs.Lists.{member}
 use Rattle.rules.specs.Score.{score}
@@ -26,43 +26,51 @@ use Rattle.rules.specs.Interval.{coords_of, event_at, event_kind, event_coord, s
 use Rattle.rules.proofs.Slide.{score_is}
 use Rattle.rules.proofs.IntervalSpans.{strict_coords}
 use Rattle.rules.proofs.IntervalRounds.{query_coords, spans_end, spans_here, spans_next}
-use Rattle.slide_mapper.specs.declared.Slide.{Slide}
-use Rattle.slide_mapper.specs.State.{flags_of, counts_of, slide_of, Ready, Inserted, Deleted}
+use Rattle.base.specs.declared.Slide.{Slide}
+use Rattle.slide_mapper.specs.declared.lists.MapperLists.{MapperLists}
+use Rattle.slide_mapper.specs.State.{flags_of, counts_of, slide_of}
+use Rattle.slide_mapper.specs.Lent.{AtPivot, Entered, Left}
 use Rattle.slide_mapper.proofs.State.{counts_at, counts_length, counts_set, flags_length, ready_inserted, ready_deleted}
+use Rattle.slide_mapper.proofs.Lent.{ready_in, inserted_in, deleted_in}
 use Rattle.sweep.proofs.Active.{inserted_flags}
-use Rattle.interval_events.specs.Spans.{Asks, Stepped, end_before, scored_from, raised, Empty, Filled, Start}
+use Rattle.interval_events.specs.Spans.{Asks, Stepped, end_before, raised, Empty, Start}
 
 -- ---- a step
 
-module _ {cs ws ss : List ℕ} {at : Slide} {i : ℕ} {cs' ws' ss' : List ℕ} {r : Slide} (k : Ready cs ws ss at) (l : i < length cs) where
-  pub step_insert : (kind : ℕ) → kind ≡ 1 → Inserted cs ws ss at i cs' ws' ss' r → Stepped kind i cs cs' ws' ss' r
+module _ {m : MapperLists} {at : Slide} (k : AtPivot m at) {i : ℕ} (l : i < length m.counts.now) {n : MapperLists} {r : Slide} where
+  pub step_insert : (kind : ℕ) → kind ≡ 1 → Entered m at i n r → Stepped kind i m n r
   unfolding stepped pick
-  step_insert kind e m = record {
-    ready = ready_inserted k l m;
-    flags = inserted_flags m;
+  step_insert kind e s = record {
+    pivot = record { slid = (ready_inserted (ready_in k) l (inserted_in s)).slid };
+    flags = inserted_flags (inserted_in s);
     counts =
+        let cs = m.counts.now in
         let h : (get_or cs i 0 + 2) / 2 ≡ get_or (counts_of cs) i 0 + 1 = omega (arith, counts_at cs i) in
-        ap counts_of m.counts ∙ counts_set cs i (get_or cs i 0 + 2) ∙ rw (eq-eqb kind 1 e) (ap (set (counts_of cs) i) h);
+        ap counts_of s.counts ∙ counts_set cs i (get_or cs i 0 + 2) ∙ rw (eq-eqb kind 1 e) (ap (set (counts_of cs) i) h);
   }
 
-  pub step_delete : (kind : ℕ) → (kind ≡ 1 → ⊥) → Deleted cs ws ss at i cs' ws' ss' r → Stepped kind i cs cs' ws' ss' r
+  pub step_delete : (kind : ℕ) → (kind ≡ 1 → ⊥) → Left m at i n r → Stepped kind i m n r
   unfolding stepped pick
-  step_delete kind e m = record {
-    ready = ready_deleted k l m;
-    flags = m.flags;
-    counts = rw (ne_eqb kind 1 e) m.counts;
+  step_delete kind e s = record {
+    pivot = record { slid = (ready_deleted (ready_in k) l (deleted_in s)).slid };
+    flags = s.flags;
+    counts = rw (ne_eqb kind 1 e) s.counts;
   }
+
+-- as many counts, where the query is as it was
+pub same_length : (cs cs' : List ℕ) → flags_of cs' ≡ flags_of cs → length cs' ≡ length cs
+same_length cs cs' e = sym (flags_length cs') ∙ ap length e ∙ flags_length cs
 
 -- no count rises by more than one
 pub stepped_most : (kind i : ℕ) (counts : List ℕ) (limit : ℕ) → ((j : ℕ) → get_or counts j 0 ≤ limit) → (j : ℕ) → get_or (stepped kind i counts) j 0 ≤ limit + 1
 unfolding stepped pick
 stepped_most kind i counts limit few j =
     let v = pick (eqb kind 1) (get_or counts i 0 + 1) (get_or counts i 0 - 1) in
-    let most : v ≤ limit + 1 = ⊎_elim (λ (e : kind ≡ 1). rw (eq-eqb kind 1 e) (omega (arith, few i))) (λ (e : kind ≢ 1). rw (ne_eqb kind 1 e) (omega (arith, few i))) (eq_or_ne kind 1) in
+    let most : v ≤ limit + 1 = ⊎_elim (λ (e : kind ≡ 1). rw (eq-eqb kind 1 e) (omega (arith, few i))) (λ (e : kind ≢ 1). rw (ne_eqb kind 1 e) (omega (arith, few i))) (cases_eq kind 1) in
     ⊎_elim (λ (e : j ≡ i).
     ⊎_elim (λ (l : i < length counts). rw e (omega (arith, most, get_or-set_same counts i v 0 l)))
-    (λ (l : length counts ≤ i). let past : get_or (set counts i v) i 0 ≡ 0 = get_or-eq_default (set counts i v) 0 (omega (arith, length-set counts i v)) in rw (e, past) (omega arith)) (lt_or_ge i (length counts)))
-    (λ (e : j ≢ i). omega (arith, get_or-set_other counts i j v 0 e, few j)) (eq_or_ne j i)
+    (λ (l : length counts ≤ i). let past : get_or (set counts i v) i 0 ≡ 0 = get_or-eq_default (set counts i v) 0 (omega (arith, length-set counts i v)) in rw (e, past) (omega arith)) (cases_lt i (length counts)))
+    (λ (e : j ≢ i). omega (arith, get_or-set_other counts i j v 0 e, few j)) (cases_eq j i)
 
 -- ---- the score
 
@@ -70,9 +78,10 @@ length-marks : (s : Sweep) → length (marks s.query (coords_of s)) ≡ length (
 unfolding marks
 length-marks s = length-map (coords_of s) (λ (c : ℕ). member c s.query)
 
-pub score_now : {cs ws ss : List ℕ} {at : Slide} → Ready cs ws ss at → (s : Sweep) (to : ℕ) → Asks s (flags_of cs) to → score s.query (active (coords_of s) (counts_of cs)) ≡ at.shared
+pub score_now : {m : MapperLists} {at : Slide} → AtPivot m at → (s : Sweep) (to : ℕ) → Asks s (flags_of m.counts.now) to → score s.query (active (coords_of s) (counts_of m.counts.now)) ≡ at.shared
 unfolding slide_of
-score_now {cs} {ws} {ss} {at} k s to a =
+score_now {m} {at} k s to a =
+    let cs = m.counts.now in
     let same : length (counts_of cs) ≡ length (coords_of s) = counts_length cs ∙ sym (flags_length cs) ∙ ap length (sym a.flags) ∙ length-marks s in
     score_is s.query (coords_of s) (counts_of cs) a.order (strict_coords s) (query_coords s) same at.pivot.0 at.shared
     (subst (λ (ms : List Bool). PivotAt (either (mark ms) (has (counts_of cs))) (both (mark ms) (has (counts_of cs))) (size ms) at.pivot.0 at.shared) (sym a.flags) k.slid.at)
@@ -138,82 +147,70 @@ module _ (ks : List ℕ) (i : ℕ) where
   span_end_past to l = rw (keys_end l)
 
 -- the first span
-pub first_scored : {cs ws ss : List ℕ} {at : Slide} {from : ℕ} {ks : List ℕ} (to e : ℕ) → Start ks from cs ws ss at → e ≡ end_before to (drop 0 ks) → (s : Sweep) → Asks s (flags_of cs) to
-    → best (spans_from s from (counts_of cs) ks) ≡ best_from (record { shared = at.shared; first = base from; last = base e }) (rest_of s (counts_of cs) ks)
+pub first_scored : {m : MapperLists} {at : Slide} {from : ℕ} {ks : List ℕ} (to e : ℕ) → Start ks from m at → e ≡ end_before to (drop 0 ks) → (s : Sweep) → Asks s (flags_of m.counts.now) to
+    → best (spans_from s from (counts_of m.counts.now) ks) ≡ best_from (record { shared = at.shared; first = base from; last = base e }) (rest_of s (counts_of m.counts.now) ks)
 unfolding best span
-first_scored {cs} {ws} {ss} {at} {from} {ks} to e k q s a =
-    ap best (spans_open s from (counts_of cs) ks (leaves ks k.places)) ∙
-    rw (score_now k.ready s to a, a.end, ← q)
+first_scored {m} {at} {from} {ks} to e k q s a =
+    ap best (spans_open s from (counts_of m.counts.now) ks (leaves ks k.places)) ∙
+    rw (score_now k.pivot s to a, a.end, ← q)
   where
     leaves : (ls : List ℕ) → All (λ x. from < event_at x) ls → Leaves from ls
     leaves [] h = tt
     leaves (l ∷ ls) h = λ z. omega (arith, h.0, z)
 
 -- and each after it
-pub next_scored : {cs ws ss : List ℕ} {at : Slide} (p to e : ℕ) (ls : List ℕ) (b r : Best) → Ready cs ws ss at → r ≡ better b (scored_from at.shared p e) → e ≡ end_before to ls → Leaves p ls → (s : Sweep) → Asks s (flags_of cs) to
-    → best_from b (spans_from s p (counts_of cs) ls) ≡ best_from r (rest_of s (counts_of cs) ls)
+pub next_scored : {m : MapperLists} {at : Slide} (p to e : ℕ) (ls : List ℕ) (b r : Best) → AtPivot m at → r ≡ better b (record { score = at.shared; first = p; last = e }) → e ≡ end_before to ls → Leaves p ls → (s : Sweep) → Asks s (flags_of m.counts.now) to
+    → best_from b (spans_from s p (counts_of m.counts.now) ls) ≡ best_from r (rest_of s (counts_of m.counts.now) ls)
 unfolding best_from span
-next_scored {cs} {ws} {ss} {at} p to e ls b r k f q l s a =
-    ap (best_from b) (spans_open s p (counts_of cs) ls l) ∙
+next_scored {m} {at} p to e ls b r k f q l s a =
+    ap (best_from b) (spans_open s p (counts_of m.counts.now) ls l) ∙
     rw (score_now k s to a, a.end, ← q, f)
 
--- ---- the first numbers become active, one by one
+-- ---- numbers become active, one by one
 
 raised_more : (is : List ℕ) (i : ℕ) (counts : List ℕ) → raised (is ++ (i ∷ [])) counts ≡ stepped 1 i (raised is counts)
 unfolding raised
 raised_more [] i counts = refl
 raised_more (j ∷ is) i counts = raised_more is i (stepped 1 j counts)
 
-pub record Filling (ns cs₀ cs ws ss : List ℕ) (at : Slide) (i : ℕ) : Type 0 where
-  pub ready : Ready cs ws ss at
-  pub flags : flags_of cs ≡ flags_of cs₀
-  pub counts : counts_of cs ≡ raised (take i ns) (counts_of cs₀)
-  pub few : (j : ℕ) → get_or (counts_of cs) j 0 ≤ i
+pub record Filling (ns : List ℕ) (old new : MapperLists) (at : Slide) (i : ℕ) : Type 0 where
+  pub pivot : AtPivot new at
+  pub flags : flags_of new.counts.now ≡ flags_of old.counts.now
+  pub counts : counts_of new.counts.now ≡ raised (take i ns) (counts_of old.counts.now)
+  pub few : (j : ℕ) → get_or (counts_of new.counts.now) j 0 ≤ i
 
-pub filling_start : {ns : List ℕ} {n : ℕ} {cs ws ss : List ℕ} {at : Slide} → Empty ns n cs ws ss at → Filling ns cs cs ws ss at 0
+pub filling_start : {ns : List ℕ} {m : MapperLists} {at : Slide} → Empty ns m at → Filling ns m m at 0
 unfolding raised
-filling_start k = record { ready = k.ready; flags = refl; counts = refl; few = λ j. omega (arith, k.none j) }
+filling_start k = record { pivot = k.pivot; flags = refl; counts = refl; few = λ j. omega (arith, k.none j) }
 
-module _ {ns cs₀ cs ws ss : List ℕ} {at : Slide} {i : ℕ} (k : Filling ns cs₀ cs ws ss at i) where
-  pub filling_room : (j : ℕ) → i ≤ item_limit → get_or cs j 0 + 2 < 1048576
-  filling_room j l = omega (arith, k.few j, counts_at cs j)
+module _ {ns : List ℕ} {old m : MapperLists} {at : Slide} {i : ℕ} (k : Filling ns old m at i) where
+  pub filling_room : (j : ℕ) → i ≤ item_limit → get_or m.counts.now j 0 + 2 < 1048576
+  filling_room j l = omega (arith, k.few j, counts_at m.counts.now j)
 
-  pub filling_more : {cs' ws' ss' : List ℕ} {r : Slide} → i < length ns → Stepped 1 (get_or ns i 0) cs cs' ws' ss' r → Filling ns cs₀ cs' ws' ss' r (i + 1)
-  filling_more l m = record {
-    ready = m.ready;
-    flags = m.flags ∙ k.flags;
-    counts = m.counts ∙ ap (stepped 1 (get_or ns i 0)) k.counts ∙ sym (ap (λ (is : List ℕ). raised is (counts_of cs₀)) (rw (add-one, take-suc ns i 0)) ∙ raised_more (take i ns) (get_or ns i 0) (counts_of cs₀));
-    few = λ j. subst (λ (xs : List ℕ). get_or xs j 0 ≤ i + 1) (sym m.counts) (stepped_most 1 (get_or ns i 0) (counts_of cs) i k.few j);
-  }
-
-  pub filling_end : (n : ℕ) → i ≡ n → n ≤ item_limit → Filled ns n cs₀ cs ws ss at
-  filling_end n e l = record {
-    ready = k.ready;
-    flags = k.flags;
-    counts = k.counts ∙ ap (λ (m : ℕ). raised (take m ns) (counts_of cs₀)) e;
-    few = λ j. omega (arith, k.few j);
+  pub filling_more : {n : MapperLists} {r : Slide} → i < length ns → Stepped 1 (get_or ns i 0) m n r → Filling ns old n r (i + 1)
+  filling_more l s = record {
+    pivot = s.pivot;
+    flags = s.flags ∙ k.flags;
+    counts = s.counts ∙ ap (stepped 1 (get_or ns i 0)) k.counts ∙ sym (ap (λ (is : List ℕ). raised is (counts_of old.counts.now)) (rw (add-one, take-suc ns i 0)) ∙ raised_more (take i ns) (get_or ns i 0) (counts_of old.counts.now));
+    few = λ j. subst (λ (xs : List ℕ). get_or xs j 0 ≤ i + 1) (sym s.counts) (stepped_most 1 (get_or ns i 0) (counts_of m.counts.now) i k.few j);
   }
 
 -- ---- the state while the events are applied
 
-pub record Applying (n : ℕ) (cs₀ cs ws ss : List ℕ) (at : Slide) (i : ℕ) : Type 0 where
-  pub ready : Ready cs ws ss at
-  pub flags : flags_of cs ≡ flags_of cs₀
-  pub few : (j : ℕ) → get_or (counts_of cs) j 0 ≤ item_limit + i
+pub record Applying (n : ℕ) (old new : MapperLists) (at : Slide) (i : ℕ) : Type 0 where
+  pub pivot : AtPivot new at
+  pub flags : flags_of new.counts.now ≡ flags_of old.counts.now
+  pub few : (j : ℕ) → get_or (counts_of new.counts.now) j 0 ≤ item_limit + i
   pub upto : i ≤ n
 
-module _ {n : ℕ} {cs₀ cs ws ss : List ℕ} {at : Slide} {i : ℕ} (k : Applying n cs₀ cs ws ss at i) where
-  -- the same, seen from here
-  pub applying_here : Applying n cs cs ws ss at i
-  applying_here = record { ready = k.ready; flags = refl; few = k.few; upto = k.upto }
+module _ {n : ℕ} {old m : MapperLists} {at : Slide} {i : ℕ} (k : Applying n old m at i) where
+  pub applying_after : {first : MapperLists} → flags_of old.counts.now ≡ flags_of first.counts.now → Applying n first m at i
+  applying_after e = record { pivot = k.pivot; flags = k.flags ∙ e; few = k.few; upto = k.upto }
 
-  pub applying_after : {cs₁ : List ℕ} → flags_of cs₀ ≡ flags_of cs₁ → Applying n cs₁ cs ws ss at i
-  applying_after e = record { ready = k.ready; flags = k.flags ∙ e; few = k.few; upto = k.upto }
-
-  pub applying_more : {cs' ws' ss' : List ℕ} {r : Slide} (kind c : ℕ) → i < n → Stepped kind c cs cs' ws' ss' r → Applying n cs₀ cs' ws' ss' r (i + 1)
-  applying_more kind c l m = record {
-    ready = m.ready;
-    flags = m.flags ∙ k.flags;
-    few = λ j. omega (arith, subst (λ (xs : List ℕ). get_or xs j 0 ≤ item_limit + i + 1) (sym m.counts) (stepped_most kind c (counts_of cs) (item_limit + i) k.few j));
+  pub applying_more : {o : MapperLists} {r : Slide} (kind c : ℕ) → i < n → Stepped kind c m o r → Applying n old o r (i + 1)
+  applying_more kind c l s = record {
+    pivot = s.pivot;
+    flags = s.flags ∙ k.flags;
+    few = λ j. omega (arith, subst (λ (xs : List ℕ). get_or xs j 0 ≤ item_limit + i + 1) (sym s.counts) (stepped_most kind c (counts_of m.counts.now) (item_limit + i) k.few j));
     upto = omega arith;
   }

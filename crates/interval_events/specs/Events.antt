@@ -5,6 +5,7 @@ use Rattle.base.specs.Lists.{Asc}
 use Rattle.base.specs.Sort.{sort_of}
 use Rattle.rules.specs.Limits.{item_limit}
 use Rattle.rules.specs.Interval.{event_key}
+use Rattle.interval_events.specs.declared.intervals.Intervals.{Intervals}
 
 -- of a list beside the ends, what belongs to an interval that ends past `from`
 unfoldable pub kept : ℕ → List ℕ → List ℕ → List ℕ
@@ -23,14 +24,8 @@ pub record Front (answers out : List ℕ) (r : ℕ) : Type 0 where
   pub many : r ≡ length answers
   pub are : take r out ≡ answers
 
--- what the choice asks: an end for each element, and room for all
-pub record Beside (xs ends out : List ℕ) : Type 0 where
-  pub parallel : length ends ≡ length xs
-  pub room : length xs ≤ length out
-
 -- what the keys ask: a coordinate number for each taken place, and room for a key of each
-pub record Numbered (kind from : ℕ) (places ends numbers out : List ℕ) : Type 0 where
-  pub two : kind ≤ 1
+pub record Numbered (from : ℕ) (places ends numbers out : List ℕ) : Type 0 where
   pub parallel : length ends ≡ length places
   pub taken : length numbers ≡ length (kept from ends places)
   pub room : length numbers ≤ length out
@@ -51,16 +46,15 @@ pub record Merged (starts ends out : List ℕ) : Type 0 where
   pub order : Asc (turns out)
 
 -- what the events ask
-pub record Local (from to : ℕ) (starts ends numbers keys out : List ℕ) : Type 0 where
-  pub parallel : length ends ≡ length starts
-  pub taken : length numbers ≡ length (kept from ends starts)
+pub record Local (from to : ℕ) (xs : Intervals) (numbers keys out : List ℕ) : Type 0 where
+  pub taken : length numbers ≡ length (kept from xs.ends.now xs.starts.now)
   pub few : length numbers ≤ item_limit
   pub key_room : length numbers ≤ length keys
   pub room : length numbers + length numbers ≤ length out
-  pub order : Asc (turns (keys_of 1 from to (kept from ends starts) numbers))
+  pub order : Asc (turns (keys_of 1 from to (kept from xs.ends.now xs.starts.now) numbers))
 
 -- and answer: all of them at the front, r of them start keys and q end keys
-pub record Made (from to : ℕ) (starts ends numbers out : List ℕ) (r q : ℕ) : Type 0 where
-  pub start_keys : r ≡ length (keys_of 1 from to (kept from ends starts) numbers)
-  pub end_keys : q ≡ length (keys_of 0 from to (kept from ends ends) numbers)
-  pub merged : Merged (keys_of 1 from to (kept from ends starts) numbers) (keys_of 0 from to (kept from ends ends) numbers) (take (q + r) out)
+pub record Made (from to : ℕ) (xs : Intervals) (numbers out : List ℕ) (r q : ℕ) : Type 0 where
+  pub start_keys : r ≡ length (keys_of 1 from to (kept from xs.ends.now xs.starts.now) numbers)
+  pub end_keys : q ≡ length (keys_of 0 from to (kept from xs.ends.now xs.ends.now) numbers)
+  pub merged : Merged (keys_of 1 from to (kept from xs.ends.now xs.starts.now) numbers) (keys_of 0 from to (kept from xs.ends.now xs.ends.now) numbers) (take (q + r) out)

@@ -1,14 +1,16 @@
 -- The sweep over its spans, for intervals that are told by their event keys and their coordinate numbers.
-use Rattle.std.specs.Prelude.{◌≡◌, Bool, List, [], ◌∷◌, ℕ, ◌+◌, ◌-◌, ◌≤◌, ◌<◌, length, get_or, take}
+use Rattle.std.specs.Prelude.{◌≡◌, Bool, List, [], ◌∷◌, ℕ, ◌+◌, ◌-◌, ◌≤◌, ◌<◌, length, get_or}
 use Rattle.base.specs.Lists.{All, StrictAsc}
 use Rattle.base.specs.declared.Best.{Best}
 use Rattle.rules.specs.Limits.{item_limit}
 use Rattle.rules.specs.Script.{stepped}
 use Rattle.rules.specs.Moves.{marks}
-use Rattle.rules.specs.Sweep.{Sweep, Scored, best}
+use Rattle.rules.specs.Sweep.{Sweep, best}
 use Rattle.rules.specs.Interval.{coords_of, event_at, event_coord, spans_from}
-use Rattle.slide_mapper.specs.declared.Slide.{Slide}
-use Rattle.slide_mapper.specs.State.{flags_of, counts_of, Ready}
+use Rattle.base.specs.declared.Slide.{Slide}
+use Rattle.slide_mapper.specs.declared.lists.MapperLists.{MapperLists}
+use Rattle.slide_mapper.specs.State.{flags_of, counts_of}
+use Rattle.slide_mapper.specs.Lent.{AtPivot}
 
 -- the sweep's query has these flags among its coordinates, and its range this end
 pub record Asks (s : Sweep) (ms : List Bool) (to : ℕ) : Type 0 where
@@ -17,52 +19,47 @@ pub record Asks (s : Sweep) (ms : List Bool) (to : ℕ) : Type 0 where
   pub end : s.range.end ≡ to
 
 -- a step of the mapper: it is ready for the next, the query is as it was, and the counts are the rules'
-pub record Stepped (kind i : ℕ) (cs cs' ws' ss' : List ℕ) (r : Slide) : Type 0 where
-  pub ready : Ready cs' ws' ss' r
-  pub flags : flags_of cs' ≡ flags_of cs
-  pub counts : counts_of cs' ≡ stepped kind i (counts_of cs)
+pub record Stepped (kind i : ℕ) (old new : MapperLists) (r : Slide) : Type 0 where
+  pub pivot : AtPivot new r
+  pub flags : flags_of new.counts.now ≡ flags_of old.counts.now
+  pub counts : counts_of new.counts.now ≡ stepped kind i (counts_of old.counts.now)
 
 -- what a step asks: the coordinate is one of the list, and its count has room
-pub record Room (key : ℕ) (cs ws ss : List ℕ) (at : Slide) : Type 0 where
-  pub ready : Ready cs ws ss at
-  pub inside : event_coord key < length cs
-  pub few : get_or (counts_of cs) (event_coord key) 0 < 1048576
+pub record Room (key : ℕ) (m : MapperLists) (at : Slide) : Type 0 where
+  pub pivot : AtPivot m at
+  pub inside : event_coord key < length m.counts.now
+  pub few : get_or (counts_of m.counts.now) (event_coord key) 0 < 1048576
 
 -- where the span before these keys ends: before the first of them, or at range end
 unfoldable pub end_before : ℕ → List ℕ → ℕ
 end_before to [] = to
 end_before to (k ∷ ks) = event_at k - 1
 
--- a score, recorded from a span's first position to its last
-abbrev pub scored_from : ℕ → ℕ → ℕ → Scored
-scored_from s from to = record { score = s; first = from; last = to }
-
 -- one insert for each number
 unfoldable pub raised : List ℕ → List ℕ → List ℕ
 raised [] counts = counts
 raised (i ∷ is) counts = raised is (stepped 1 i counts)
 
--- what filling asks: no number is active yet, and the first n are in the list
-pub record Empty (ns : List ℕ) (n : ℕ) (cs ws ss : List ℕ) (at : Slide) : Type 0 where
-  pub ready : Ready cs ws ss at
-  pub none : (j : ℕ) → get_or (counts_of cs) j 0 ≡ 0
-  pub numbers : All (λ i. i < length cs) ns
+-- what filling asks: no number is active yet, and each is in the list
+pub record Empty (ns : List ℕ) (m : MapperLists) (at : Slide) : Type 0 where
+  pub pivot : AtPivot m at
+  pub none : (j : ℕ) → get_or (counts_of m.counts.now) j 0 ≡ 0
+  pub numbers : All (λ i. i < length m.counts.now) ns
   pub few : length ns ≤ item_limit
-  pub within : n ≤ length ns
 
--- and answers: the first n numbers are active
-pub record Filled (ns : List ℕ) (n : ℕ) (cs cs' ws' ss' : List ℕ) (r : Slide) : Type 0 where
-  pub ready : Ready cs' ws' ss' r
-  pub flags : flags_of cs' ≡ flags_of cs
-  pub counts : counts_of cs' ≡ raised (take n ns) (counts_of cs)
-  pub few : (j : ℕ) → get_or (counts_of cs') j 0 ≤ item_limit
+-- and answers: the numbers are active
+pub record Filled (ns : List ℕ) (old new : MapperLists) (r : Slide) : Type 0 where
+  pub pivot : AtPivot new r
+  pub flags : flags_of new.counts.now ≡ flags_of old.counts.now
+  pub counts : counts_of new.counts.now ≡ raised ns (counts_of old.counts.now)
+  pub few : (j : ℕ) → get_or (counts_of new.counts.now) j 0 ≤ item_limit
 
 -- what the sweep asks: every key lies past the first position, its coordinate is in the list, and there are at most two for each item
-pub record Start (ks : List ℕ) (from : ℕ) (cs ws ss : List ℕ) (at : Slide) : Type 0 where
-  pub ready : Ready cs ws ss at
+pub record Start (ks : List ℕ) (from : ℕ) (m : MapperLists) (at : Slide) : Type 0 where
+  pub pivot : AtPivot m at
   pub places : All (λ k. from < event_at k) ks
-  pub coords : All (λ k. event_coord k < length cs) ks
-  pub counts : (j : ℕ) → get_or (counts_of cs) j 0 ≤ item_limit
+  pub coords : All (λ k. event_coord k < length m.counts.now) ks
+  pub counts : (j : ℕ) → get_or (counts_of m.counts.now) j 0 ≤ item_limit
   pub few : length ks ≤ item_limit + item_limit
 
 -- and answers: the best of all spans, of every sweep that asks so

@@ -2,4 +2,5 @@
 #![tactic(auto)]
 
 pub mod events;
+pub mod intervals;
 pub mod spans;

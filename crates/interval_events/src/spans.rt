@@ -1,12 +1,13 @@
 // The sweep over its spans: between two positions of events the active intervals stay the same, and the mapper's shared count is their score.
 ghost use Rattle.std.specs.Prelude.{◌≡◌, ◌<◌, length, get_or, drop};
 ghost use Rattle.rules.specs.Interval.{event_at, event_kind, event_coord};
-ghost use Rattle.rules.specs.Sweep as rules;
 ghost use Rattle.slide_mapper.specs.State.{flags_of, counts_of};
-ghost use Rattle.interval_events.specs.Spans.{Stepped, Room, end_before, scored_from, Empty, Filled, Start, BestOf};
+ghost use Rattle.slide_mapper.specs.Lent.{SameLists};
+ghost use Rattle.base.specs.Kinds.{kind_number};
+ghost use Rattle.interval_events.specs.Spans.{Stepped, Room, end_before, Empty, Filled, Start, BestOf};
 
-use base::{Base, Best, Coord};
-use slide_mapper::Slide;
+use base::{Base, Best, Coord, Kind, Slide};
+use slide_mapper::lists::MapperLists;
 
 // The position of an event key.
 fn position(key: u64) -> u64
@@ -15,16 +16,27 @@ fn position(key: u64) -> u64
     key / 131072
 }
 
-// An event: kind 1 inserts, 0 deletes, which at count 0 does nothing.
-fn step(counts: &mut [u32], words: &mut [u64], summary: &mut [u64], at: Slide, key: u64) -> Slide
-    requires { Room key counts.old words.old summary.old at }
-    ensures { Stepped (event_kind key) (event_coord key) counts.old counts.new words.new summary.new result }
+// What its kind makes of the interval.
+fn kind_of(key: u64) -> Kind
+    ensures { kind_number result ≡ event_kind key }
+{
+    if key / 65536 % 2 == 0 {
+        Kind::Delete
+    } else {
+        Kind::Insert
+    }
+}
+
+// An event. A delete does nothing at count 0.
+fn step(lists: &mut MapperLists<'_>, at: Slide, key: u64) -> Slide
+    requires { Room key lists.old at }
+    ensures { Stepped (event_kind key) (event_coord key) lists.old lists.new result }
 {
     let coord = Coord((key % 65536) as u32);
-    if (key / 65536) % 2 == 1 {
-        return slide_mapper::insert_ref(counts, words, summary, at, coord);
+    match kind_of(key) {
+        Kind::Delete => lists.delete_ref(at, coord),
+        Kind::Insert => lists.insert_ref(at, coord),
     }
-    slide_mapper::delete_ref(counts, words, summary, at, coord)
 }
 
 // The last position before the events from i on: the range's last where there are none.
@@ -32,69 +44,30 @@ fn span_end(keys: &[u64], i: usize, to: u64) -> u64
     requires { i < length keys.now → 0 < event_at (get_or keys.now i 0) }
     ensures { result ≡ end_before to (drop i keys.now) }
 {
-    if i < keys.len() {
-        return position(keys[i]) - 1;
+    match keys.get(i) {
+        Some(key) => position(*key) - 1,
+        None => to,
     }
-    to
 }
 
-// A span, scored by the mapper behind its events. A greater score takes first and last, an equal one takes last.
-fn better(best: Best, at: Slide, first: Base, last: Base) -> Best
-    ensures { result ≡ rules.better best (scored_from at.shared first.0 last.0) }
-{
-    let old = best.shared;
-    let shared = at.shared;
-    if old < shared {
-        return Best {
-            shared,
-            first,
-            last,
-        };
-    }
-    if old == shared {
-        let earliest = best.first;
-        return Best {
-            shared: old,
-            first: earliest,
-            last,
-        };
-    }
-    best
-}
-
-// The first n numbers become active: the intervals that start no later than the range.
-pub fn fill(
-    numbers: &[u32],
-    counts: &mut [u32],
-    words: &mut [u64],
-    summary: &mut [u64],
-    start: Slide,
-    n: usize,
-) -> Slide
-    requires { Empty numbers.now n counts.old words.old summary.old start }
-    ensures { Filled numbers.now n counts.old counts.new words.new summary.new result }
+// The intervals of these numbers become active: those that start no later than the range.
+pub fn fill(numbers: &[u32], lists: &mut MapperLists<'_>, start: Slide) -> Slide
+    requires { Empty numbers.now lists.old start }
+    ensures same { SameLists lists.old lists.new }
+    ensures filled { Filled numbers.now lists.old lists.new result }
 {
     let mut at = start;
-    let mut i = 0;
-    while i < n {
-        at = slide_mapper::insert_ref(counts, words, summary, at, Coord(numbers[i]));
-        i += 1;
+    for number in numbers {
+        at = lists.insert_ref(at, Coord(*number));
     }
     at
 }
 
-// Every span from position `from` on: the events at one position are all applied, then the span up to the next ones is scored.
-pub fn run(
-    keys: &[u64],
-    from: Base,
-    to: Base,
-    counts: &mut [u32],
-    words: &mut [u64],
-    summary: &mut [u64],
-    start: Slide,
-) -> Best
-    requires { Start keys.now from.0 counts.old words.old summary.old start }
-    ensures { BestOf (flags_of counts.old) keys.now from.0 to.0 (counts_of counts.old) result }
+// Every span from position `from` on: the events at one position are all applied, then the span up to the next ones is scored. Both loops go on
+// with one index.
+pub fn run(keys: &[u64], from: Base, to: Base, lists: &mut MapperLists<'_>, start: Slide) -> Best
+    requires { Start keys.now from.0 lists.old start }
+    ensures { BestOf (flags_of lists.old.counts.now) keys.now from.0 to.0 (counts_of lists.old.counts.now) result }
 {
     let mut at = start;
     let mut best = Best {
@@ -110,10 +83,11 @@ pub fn run(
             if position(key) != p {
                 break 'group;
             }
-            at = step(counts, words, summary, at, key);
+            at = step(lists, at, key);
             i += 1;
         }
-        best = better(best, at, Base(p), Base(span_end(keys, i, to.0)));
+        let last = Base(span_end(keys, i, to.0));
+        best = sweep::better(best, at.shared, Base(p), last);
     }
     best
 }

@@ -1,2 +1,4 @@
--- Hits: the intervals among the hits, and what the parts that gather their keys promise each other
+-- Keys: the intervals among hits, and their keys
+pub mod Keys
+-- Hits: what the parts that gather keys promise each other
 pub mod Hits

@@ -1,7 +1,7 @@
 -- From what the sweep found to the rules' answer: the early nones in their order, and that a best can be placed: its score is no more than the query's hashes, and its
 -- positions lie within the range. Assumes nothing.
-use mathlib.Core.Path.{◌≡◌, refl, sym, subst, ◌∙◌}
-use mathlib.Core.Logic.{⊎_elim, ◌≢◌}
+use mathlib.Core.Path.{◌≡◌, sym, subst, ◌∙◌}
+use mathlib.Core.Logic.{⊎_elim}
 use mathlib.Core.Bool.{true, false, ◌&&◌, and-eq-true_iff}
 use mathlib.Core.List.{List, [], ◌∷◌, ◌++◌, map}
 use Prim.Native.Nat.{ℕ, ◌+◌, ◌≤◌, ◌<◌, ◌^◌}
@@ -12,16 +12,14 @@ use borrow.Author.Tests.{lt-ltb, le-ltb, eq-eqb, ne_eqb, leb-true}
 use Rattle.base.specs.Pick.{pick}
 use Rattle.base.specs.Lists.{All}
 use Rattle.base.specs.declared.Best.{Best}
-use Rattle.base.proofs.Checks.{eq_stop, eq_skip}
 use Rattle.base.proofs.Lists.{all_append}
-use Rattle.base.proofs.Order.{eq_or_ne}
 use Rattle.base.proofs.Sort.{all_sort}
 use Rattle.rules.specs.Limits.{query_limit, item_limit}
 use Rattle.rules.specs.Lists.{member, filter}
 use Rattle.rules.specs.Sweep.{Sweep, Scored, base, better, best_from, best}
 use Rattle.rules.specs.Interval.{Interval, taken, coords_of, event_key, event_at, event_kind, event_coord, events, beginning, span, spans_from, spans}
 use Rattle.rules.specs.Script.{stepped}
-use Rattle.rules.specs.Place.{settled, settled_in, interval_early, interval_stats, interval_from, interval_answer}
+use Rattle.rules.specs.Place.{settled_in, interval_early, interval_stats, interval_from, interval_answer}
 use Rattle.rules.proofs.Score.{cases, number_fits}
 use Rattle.rules.proofs.IntervalEach.{Each, each_map}
 use Rattle.rules.proofs.IntervalEvents.{at_key, coord_of}
@@ -32,7 +30,11 @@ use Rattle.rules.proofs.Interval.{taken_members, coords_fit}
 use Rattle.sweep.specs.Work.{Fits}
 use Rattle.interval_work.specs.declared.Swept.{Swept}
 use Rattle.interval_work.specs.Work.{Found}
-use Rattle.interval_sweep.specs.Answer.{none, stats_of, placed, Placeable}
+use Rattle.std.specs.Prelude.{Option, Some, None, MatchOption, Float}
+use Rattle.base.specs.declared.Range.{Range}
+use Rattle.interval_sweep.specs.declared.checked.Checked.{Checked}
+use Rattle.interval_sweep.specs.Given.{asked}
+use Rattle.interval_sweep.specs.Answer.{none, placed}
 
 -- ---- positions within the range
 
@@ -103,38 +105,34 @@ module _ (s : Sweep) where
       early_reversed l = rw (le-ltb s.settings.length s.settings.kmer a, ne_eqb (length s.query) 0 b, lt-ltb s.range.end s.range.start l)
 
       module _ (c : s.range.start ≤ s.range.end) where
-        late : interval_answer s ≡ pick (eqb (length (taken s)) 0) none (settled_in s (interval_stats s) (best (spans s)))
+        pub late : interval_answer s ≡ pick (eqb (length (taken s)) 0) none (settled_in s (interval_stats s) (best (spans s)))
         unfolding interval_answer interval_from interval_early
         late = rw (le-ltb s.settings.length s.settings.kmer a, ne_eqb (length s.query) 0 b, le-ltb s.range.end s.range.start c)
 
-        -- what was found is placed
-        pub late_placed : (r : Swept) → Found s r → placed s.settings.length (length s.query) s.identities s.uppers s.minimum s.range r ≡ interval_answer s
-        unfolding settled_in interval_stats
-        late_placed r f =
-            sym
-            (⊎_elim (λ (e : length (taken s) ≡ 0). eq_stop r.items 0 none _ _ (f.items_are ∙ e) (late ∙ sym (eq_stop (length (taken s)) 0 none _ _ e refl)))
-            (λ (n : length (taken s) ≢ 0).
-            eq_skip r.items 0 none _ _ (λ e. n (sym f.items_are ∙ e)) (late ∙ sym (eq_skip (length (taken s)) 0 none _ _ n refl) ∙ sym (settles (omega (arith, n))))) (eq_or_ne (length (taken s)) 0))
-          where
-            settles : 0 < length (taken s) → settled s.settings.length (length s.query) s.identities s.uppers s.minimum (stats_of s.range r) r.best ≡ settled_in s (interval_stats s) (best (spans s))
-            settles some = rw (f.items_are, f.coords_are some, f.best_is some)
+        pub late_fits : (r : Option Swept) → Found s r → 1 ≤ s.settings.length → length s.query ≤ query_limit → length s.hashes ≤ item_limit → length s.query + 1 ≤ length s.identities → length s.identities ≡ length s.uppers → s.range.end < 2 ^ 32
+            → MatchOption r (Unit {0}) (λ w. Fits s.settings.length (length s.query) s.identities s.uppers w.best)
+        late_fits None f some q h entries same wide = tt
+        late_fits (Some r) f some q h entries same wide =
+            let in_range = spans_in s (coords_fit s q h) c in
+            subst (λ (x : Best). Fits s.settings.length (length s.query) s.identities s.uppers x) (sym f.best_is)
+            (record {
+              some = some;
+              small = omega arith;
+              identity = omega (arith, interval_most s);
+              upper = omega (arith, interval_most s);
+              first = omega (arith, in_range.0);
+              last = omega (arith, in_range.1);
+            })
 
-        pub late_fits : (r : Swept) → Found s r → 1 ≤ s.settings.length → length s.query ≤ query_limit → length s.hashes ≤ item_limit → length s.query + 1 ≤ length s.identities → length s.identities ≡ length s.uppers → s.range.end < 2 ^ 32
-            → Placeable s.settings.length (length s.query) s.identities s.uppers s.range r
-        late_fits r f some q h entries same wide = record {
-          forward = c;
-          fits =
-              λ l.
-              let taken_some : 0 < length (taken s) = omega (arith, f.items_are) in
-              let in_range = spans_in s (coords_fit s q h) c in
-              let b = f.best_is taken_some in
-              subst (λ (x : Best). Fits s.settings.length (length s.query) s.identities s.uppers x) (sym b)
-              (record {
-                some = some;
-                small = omega arith;
-                identity = omega (arith, interval_most s);
-                upper = omega (arith, interval_most s);
-                first = omega (arith, in_range.0);
-                last = omega (arith, in_range.1);
-              });
-        }
+-- what was found is placed
+module _ (i : Checked) (range : Range) (minimum : Float) where
+  abbrev s : Sweep
+  s = asked i range minimum
+
+  module _ (a : s.settings.kmer ≤ s.settings.length) (b : length s.query ≡ 0 → ⊥) (c : s.range.start ≤ s.range.end) where
+    pub late_placed : (r : Option Swept) → Found s r → placed i range minimum r ≡ interval_answer s
+    unfolding settled_in interval_stats pick
+    late_placed None e = sym (late s a b c ∙ rw (eq-eqb (length (taken s)) 0 e))
+    late_placed (Some r) f =
+        let some : length (taken s) ≡ 0 → ⊥ = λ e. omega (arith, f.some) in
+        sym (late s a b c ∙ rw (ne_eqb (length (taken s)) 0 some, ← f.items_are, ← f.coords_are, ← f.best_is))

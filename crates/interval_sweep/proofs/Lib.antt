@@ -4,7 +4,7 @@
 pub mod Checking
 -- Answering: the early nones, and that a best can be placed
 pub mod Answering
--- Whole: what a fine verdict tells, and the promise of the call
+-- Whole: the promise of the call
 pub mod Whole
 -- Unique: the contract determines the answer and all memory
 pub mod Unique

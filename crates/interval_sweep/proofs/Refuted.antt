@@ -8,7 +8,7 @@ use lib.Ieee.{Float, nan}
 use lib.ListN.{replicate}
 use Rattle.base.specs.declared.Place.{Place}
 use Rattle.base.specs.declared.Stats.{Stats}
-use Rattle.base.specs.declared.SweepAnswer.{SweepAnswer}
+use Rattle.base.specs.Answers.{SweepAnswer, nothing, placed}
 use Rattle.rules.specs.Sweep.{Sweep}
 use Rattle.rules.specs.Calls.{SweepLent, IntervalPromise}
 use Rattle.rules.specs.Computes.{computes}
@@ -22,16 +22,16 @@ pub asked_is : (s : Sweep) (identities uppers : List Float) (minimum : Float) �
 asked_is s identities uppers minimum = refl
 
 -- one fixed place: D is placed at 3, E at 4
-pub interval_one_place : (x : Place) (s u : Stats) (a b : SweepLent) (k l : List ℕ) → IntervalPromise (asked case_d) (SweepAnswer.Placed x s) ones_d a (replicate 6 1) k → IntervalPromise (asked case_e) (SweepAnswer.Placed x u) ones_d b (replicate 6 1) l → ⊥
+pub interval_one_place : (x : Place) (s u : Stats) (a b : SweepLent) (k l : List ℕ) → IntervalPromise (asked case_d) (placed x s) ones_d a (replicate 6 1) k → IntervalPromise (asked case_e) (placed x u) ones_d b (replicate 6 1) l → ⊥
 unfolding computes
 interval_one_place x s u a b k l p q = let e : ◌≡◌ {A = ℕ} 3 4 = sweep_one_place x s u p.answer q.answer in omega (arith, e)
 
 -- made-up windows: the range of D has 9
-pub interval_made_up_windows : (x : Place) (s : Stats) (after : SweepLent) (keys : List ℕ) → (s.windows ≡ 9 → ⊥) → IntervalPromise (asked case_d) (SweepAnswer.Placed x s) ones_d after (replicate 6 1) keys → ⊥
+pub interval_made_up_windows : (x : Place) (s : Stats) (after : SweepLent) (keys : List ℕ) → (s.windows ≡ 9 → ⊥) → IntervalPromise (asked case_d) (placed x s) ones_d after (replicate 6 1) keys → ⊥
 interval_made_up_windows x s after keys other p = other (interval_made_up x s after keys p).0
 
 -- made-up coordinates: D has 3
-pub interval_made_up_coordinates : (x : Place) (s : Stats) (after : SweepLent) (keys : List ℕ) → (s.coords ≡ 3 → ⊥) → IntervalPromise (asked case_d) (SweepAnswer.Placed x s) ones_d after (replicate 6 1) keys → ⊥
+pub interval_made_up_coordinates : (x : Place) (s : Stats) (after : SweepLent) (keys : List ℕ) → (s.coords ≡ 3 → ⊥) → IntervalPromise (asked case_d) (placed x s) ones_d after (replicate 6 1) keys → ⊥
 interval_made_up_coordinates x s after keys other p = other (interval_made_up x s after keys p).1
 
 -- one work list left unzeroed: whichever it is of the five that both sweeps have; the event keys
@@ -44,15 +44,15 @@ unfolding computes
 interval_leaves_keys r after keys kept p = work_unzeroed 6 _ p.keys_left (omega arith) refl kept
 
 -- a rejection on a NaN: D with that upper bound and a minimum above every other, and with a minimum that is none
-pub interval_rejects_on_nan : (s : Stats) (after : SweepLent) (keys : List ℕ) → IntervalPromise (asked_with case_d table_b (f0 ∷ nan ∷ f100 ∷ []) f150) (SweepAnswer.Nothing s) ones_d after (replicate 6 1) keys → ⊥
+pub interval_rejects_on_nan : (s : Stats) (after : SweepLent) (keys : List ℕ) → IntervalPromise (asked_with case_d table_b (f0 ∷ nan ∷ f100 ∷ []) f150) (nothing s) ones_d after (replicate 6 1) keys → ⊥
 unfolding computes
 interval_rejects_on_nan s after keys p = sweep_says_none s p.answer refl
 
-pub interval_rejects_on_nan_minimum : (s : Stats) (after : SweepLent) (keys : List ℕ) → IntervalPromise (asked_with case_d table_b table_b nan) (SweepAnswer.Nothing s) ones_d after (replicate 6 1) keys → ⊥
+pub interval_rejects_on_nan_minimum : (s : Stats) (after : SweepLent) (keys : List ℕ) → IntervalPromise (asked_with case_d table_b table_b nan) (nothing s) ones_d after (replicate 6 1) keys → ⊥
 unfolding computes
 interval_rejects_on_nan_minimum s after keys p = sweep_says_none s p.answer refl
 
 -- the identity tested: D with an identity below the minimum and an upper bound that equals it
-pub interval_tests_the_identity : (s : Stats) (after : SweepLent) (keys : List ℕ) → IntervalPromise (asked_with case_d (f0 ∷ f0 ∷ f100 ∷ []) table_b f50) (SweepAnswer.Nothing s) ones_d after (replicate 6 1) keys → ⊥
+pub interval_tests_the_identity : (s : Stats) (after : SweepLent) (keys : List ℕ) → IntervalPromise (asked_with case_d (f0 ∷ f0 ∷ f100 ∷ []) table_b f50) (nothing s) ones_d after (replicate 6 1) keys → ⊥
 unfolding computes
 interval_tests_the_identity s after keys p = sweep_says_none s p.answer refl

@@ -1,114 +1,79 @@
 // The answer of an input that passed its checks: none at once where nothing can match, else the place of the best.
 ghost use Rattle.std.specs.Prelude.{◌≡◌, ◌+◌, length};
-ghost use Rattle.interval_sweep.specs.Given.{sweep_of};
-ghost use Rattle.interval_sweep.specs.Answer.{none, Placeable, placed, Accepted, Answered, Exact};
+ghost use Rattle.rules.specs.Place.{interval_answer};
+ghost use Rattle.sweep.specs.Lent.{SameWork};
 ghost use Rattle.interval_work.specs.Work.{Clear};
+ghost use Rattle.interval_sweep.specs.Given.{asked};
+ghost use Rattle.interval_sweep.specs.Answer.{Placeable, placed, Answered, Exact};
 
-use base::{Range, Settings, Stats, SweepAnswer};
+use crate::checked::Checked;
+use base::{Outcome, Range, Stats};
 use interval_work::Swept;
-
-// None, settled before coordinates are built.
-fn nothing() -> SweepAnswer
-    ensures { result ≡ none }
-{
-    SweepAnswer::Nothing(Stats {
-        windows: 0,
-        coords: 0,
-        items: 0,
-    })
-}
+use sweep::Found;
+use sweep::work::Work;
 
 // The place of the best, unless no interval was taken. Zero may win here.
-fn place(
-    length: u32,
-    size: usize,
-    identities: &[f64],
-    uppers: &[f64],
-    minimum: f64,
-    range: Range,
-    swept: Swept,
-) -> SweepAnswer
-    requires { Placeable length size identities.now uppers.now range swept }
-    ensures { result ≡ placed length size identities.now uppers.now minimum range swept }
+fn place(input: Checked<'_>, range: Range, minimum: f64, swept: Option<Swept>) -> Outcome
+    requires { Placeable input range swept }
+    ensures { Ok result ≡ placed input.entry range minimum swept }
 {
-    let items = swept.items;
-    if items == 0 {
-        return nothing();
-    }
-    let windows = interval_work::wide(range.end) + 1 - interval_work::wide(range.start);
-    let coords = swept.coords;
-    let best = swept.best;
-    sweep::settle(
-        length,
-        size,
-        identities,
-        uppers,
-        minimum,
-        Stats {
-            windows,
+    let Some(
+        Swept {
+            best,
             coords,
             items,
         },
-        best,
+    ) = swept
+    else {
+        return sweep::early();
+    };
+    let windows = u64::from(range.end) + 1 - u64::from(range.start);
+    let stats = Stats {
+        windows,
+        coords,
+        items,
+    };
+    let found = Found { best, stats };
+    sweep::settle(
+        input.settings.length,
+        input.query.len(),
+        input.table,
+        minimum,
+        found,
     )
 }
 
 // The answer, over work lists that are zero, which it leaves zero.
 fn answer(
-    settings: Settings,
+    input: Checked<'_>,
     range: Range,
-    query: &[u64],
-    hashes: &[u64],
-    starts: &[u32],
-    ends: &[u32],
-    identities: &[f64],
-    uppers: &[f64],
     minimum: f64,
-    keys: &mut [u64],
-    counts: &mut [u32],
-    coords: &mut [u32],
-    words: &mut [u64],
-    summary: &mut [u64],
+    work: &mut Work<'_>,
     events: &mut [u64],
-) -> SweepAnswer
-    requires { Accepted query.now hashes.now starts.now ends.now settings identities.now uppers.now × Clear (length query.now + length hashes.now) (length hashes.now) keys.old counts.old coords.old words.old summary.old events.old }
-    ensures { Answered (sweep_of query.now hashes.now starts.now ends.now settings range identities.now uppers.now minimum) keys.new counts.new coords.new words.new summary.new events.new result }
+) -> Outcome
+    requires { Clear (length input.query.now + length input.intervals.hashes.now) (length input.intervals.hashes.now) work.old events.old }
+    ensures same { SameWork work.old work.new }
+    ensures answer { Ok result ≡ interval_answer (asked input.entry range minimum) }
+    ensures clear { Clear (length input.entry.query.now + length input.entry.intervals.hashes.now) (length input.entry.intervals.hashes.now) work.new events.new }
 {
-    if settings.length < settings.kmer {
-        return nothing();
+    let Checked {
+        settings,
+        query,
+        intervals,
+        ..
+    } = input;
+    if settings.length < settings.kmer || query.is_empty() || range.end < range.start {
+        return sweep::early();
     }
-    if query.len() == 0 {
-        return nothing();
-    }
-    if range.end < range.start {
-        return nothing();
-    }
-    let bounds = interval_work::local(starts, settings, range);
-    let swept = interval_work::work(
-        query, hashes, starts, ends, settings, range, bounds, keys, counts, coords, words, summary,
-        events,
-    );
-    place(
-        settings.length,
-        query.len(),
-        identities,
-        uppers,
-        minimum,
-        range,
-        swept,
-    )
+    let bounds = interval_work::local(intervals.starts, settings, range);
+    let swept = interval_work::work(query, intervals, settings, range, bounds, work, events);
+    place(input, range, minimum, swept)
 }
 
-// The same, whatever the work lists held.
+// The same, whatever the work lists held. Over slices: the `Work` of parts of lists is made where these are the function's own.
 pub fn clear_and_answer(
-    settings: Settings,
+    input: Checked<'_>,
     range: Range,
-    query: &[u64],
-    hashes: &[u64],
-    starts: &[u32],
-    ends: &[u32],
-    identities: &[f64],
-    uppers: &[f64],
     minimum: f64,
     keys: &mut [u64],
     counts: &mut [u32],
@@ -116,15 +81,18 @@ pub fn clear_and_answer(
     words: &mut [u64],
     summary: &mut [u64],
     events: &mut [u64],
-) -> SweepAnswer
-    requires { Accepted query.now hashes.now starts.now ends.now settings identities.now uppers.now × Exact (length query.now + length hashes.now) (length hashes.now) keys.old counts.old coords.old words.old summary.old events.old }
-    ensures { Answered (sweep_of query.now hashes.now starts.now ends.now settings range identities.now uppers.now minimum) keys.new counts.new coords.new words.new summary.new events.new result }
+) -> Outcome
+    requires { Exact (length input.query.now + length input.intervals.hashes.now) (length input.intervals.hashes.now) keys.old counts.old coords.old words.old summary.old events.old }
+    ensures { Answered (asked input.entry range minimum) keys.new counts.new coords.new words.new summary.new events.new (Ok result) }
 {
-    sweep::clear(keys, counts, coords, words, summary);
-    let n = events.len();
-    base::clear_words(events, n);
-    answer(
-        settings, range, query, hashes, starts, ends, identities, uppers, minimum, keys, counts,
-        coords, words, summary, events,
-    )
+    let mut work = Work {
+        keys,
+        counts,
+        coords,
+        words,
+        summary,
+    };
+    work.clear();
+    events.fill(0);
+    answer(input, range, minimum, &mut work, events)
 }

@@ -3,26 +3,33 @@
 #![tactic(auto)]
 
 mod answer;
-mod checks;
+mod checked;
+mod input;
 
 ghost use Rattle.rules.specs.Calls.{IntervalPromise};
 ghost use Rattle.interval_sweep.specs.Given.{sweep_of, lent_of};
 
-use base::{Range, Settings, SweepAnswer, Verdict};
+use base::{Outcome, Range, Refusal, Settings};
+use checked::Checked;
+use input::Input;
+use interval_events::intervals::Intervals;
+use sweep::{Lengths, Table};
 
 // The intervals are told by their hashes, starts and ends, starts never descending; the query ascends; the table has an identity and an upper
 // bound for each count of shared hashes. The answer is a place, none, or the first refusal with its place, where every list is as it was.
 // Lent lists want, where m is the number of query hashes and intervals: keys, counts and coords m entries, words one per 64 of m, summary one
 // per 64 words, events two per interval. What they hold before does not matter; they are left zero that far, and nothing past it is touched.
-pub fn interval_sweep(
+// The lists that are read have one lifetime by name, since one struct holds them.
+// The lists are parameters one by one: callers hold them apart, and the calls for C hand them on so.
+pub fn interval_sweep<'a>(
     settings: Settings,
     range: Range,
-    query: &[u64],
-    hashes: &[u64],
-    starts: &[u32],
-    ends: &[u32],
-    identities: &[f64],
-    uppers: &[f64],
+    query: &'a [u64],
+    hashes: &'a [u64],
+    starts: &'a [u32],
+    ends: &'a [u32],
+    identities: &'a [f64],
+    uppers: &'a [f64],
     minimum: f64,
     keys: &mut [u64],
     counts: &mut [u32],
@@ -30,46 +37,47 @@ pub fn interval_sweep(
     words: &mut [u64],
     summary: &mut [u64],
     events: &mut [u64],
-) -> SweepAnswer
+) -> Result<Outcome, Refusal>
     ensures { IntervalPromise (sweep_of query.now hashes.now starts.now ends.now settings range identities.now uppers.now minimum) result (lent_of keys.old counts.old coords.old words.old summary.old) (lent_of keys.new counts.new coords.new words.new summary.new) events.old events.new }
 {
-    let verdict = checks::check(
-        query,
-        hashes,
-        starts,
-        ends.len(),
-        identities.len(),
-        uppers.len(),
-        settings.kmer,
-        keys.len(),
-        counts.len(),
-        coords.len(),
-        words.len(),
-        summary.len(),
-        events.len(),
-    );
-    if let Verdict::No(refusal) = verdict {
-        return SweepAnswer::Refused(refusal);
-    }
-    let n = hashes.len();
-    let m = query.len() + n;
-    let w = (m + 63) / 64;
-    let s = (w + 63) / 64;
-    answer::clear_and_answer(
+    let table = Table { identities, uppers };
+    let input = Input {
         settings,
-        range,
         query,
         hashes,
         starts,
         ends,
-        identities,
-        uppers,
+        table,
+    };
+    let lent = Lengths {
+        keys: keys.len(),
+        counts: counts.len(),
+        coords: coords.len(),
+        words: words.len(),
+        summary: summary.len(),
+    };
+    input.check(lent, events.len())?;
+    let n = hashes.len();
+    let needed = Lengths::needed(query.len() + n);
+    let checked = Checked {
+        settings,
+        query,
+        intervals: Intervals {
+            hashes,
+            starts,
+            ends,
+        },
+        table,
+    };
+    Ok(answer::clear_and_answer(
+        checked,
+        range,
         minimum,
-        &mut keys[..m],
-        &mut counts[..m],
-        &mut coords[..m],
-        &mut words[..w],
-        &mut summary[..s],
+        &mut keys[..needed.keys],
+        &mut counts[..needed.counts],
+        &mut coords[..needed.coords],
+        &mut words[..needed.words],
+        &mut summary[..needed.summary],
         &mut events[..2 * n],
-    )
+    ))
 }

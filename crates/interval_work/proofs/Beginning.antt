@@ -8,22 +8,27 @@ use Prim.Native.Nat.{ℕ, ◌+◌, ◌-◌, ◌*◌, ◌/◌, ◌≤◌, ◌<◌
 use native.Mathlib.Omega.{arith}
 use lib.Dec.{ltb, leb}
 use lib.ListN.{length, get_or, take, length-append}
+use lib.Seq.{length-take-le}
 use borrow.Author.Tests.{ltb-true}
 use Rattle.base.specs.Pick.{pick}
 use Rattle.base.specs.Lists.{All, Asc}
 use Rattle.base.specs.Sort.{sort_of}
 use Rattle.base.specs.declared.Best.{Best}
-use Rattle.base.proofs.Lists.{all_map, all_append}
+use Rattle.base.proofs.Lists.{all_map, all_append, all_take}
 use Rattle.base.proofs.Sort.{all_same, length_same}
 use Rattle.rules.specs.Sweep.{Sweep, best}
 use Rattle.rules.specs.Interval.{beginning, event_key, event_at, event_coord, spans_from, spans}
 use Rattle.rules.proofs.Score.{cases}
 use Rattle.rules.proofs.IntervalEvents.{at_key, coord_key}
 use Rattle.rules.proofs.IntervalKeys.{insert_keys, delete_keys, spans_merged}
-use Rattle.slide_mapper.specs.declared.Slide.{Slide}
-use Rattle.slide_mapper.specs.State.{flags_of, counts_of, Blank, Ready}
+use Rattle.base.specs.declared.Slide.{Slide}
+use Rattle.slide_mapper.specs.declared.lists.MapperLists.{MapperLists}
+use Rattle.slide_mapper.specs.State.{flags_of, counts_of, slide_of, Blank}
 use Rattle.slide_mapper.proofs.State.{counts_at}
-use Rattle.interval_events.specs.Spans.{Asks, raised, Empty, Filled, Start, BestOf}
+use Rattle.rules.specs.Ranks.{Slid}
+use Rattle.interval_events.specs.declared.intervals.Intervals.{Intervals}
+use Rattle.interval_events.proofs.Spanning.{same_length}
+use Rattle.interval_events.specs.Spans.{Asks, raised, Empty, Filled, Start}
 use Rattle.interval_events.specs.Events.{kept, keys_of, turns, Local, Made}
 use Rattle.interval_work.specs.Work.{Begin, start_keys, end_keys, Given, Tells}
 use Rattle.interval_events.proofs.Gathering.{keys_few}
@@ -33,23 +38,25 @@ use Rattle.interval_events.proofs.Gathering.{keys_few}
 blank_none : {cs ws ss : List ℕ} → Blank cs ws ss → (j : ℕ) → get_or (counts_of cs) j 0 ≡ 0
 blank_none {cs} b j = omega (arith, counts_at cs j, b.flags j)
 
-module _ {ns ks : List ℕ} {p from : ℕ} {cs ws ss : List ℕ} (k : Begin ns ks p from cs ws ss) where
-  pub begin_empty : {ws' ss' : List ℕ} {at : Slide} → Ready cs ws' ss' at → Empty ns p cs ws' ss' at
-  begin_empty r = record { ready = r; none = blank_none k.blank; numbers = k.numbers; few = k.few; within = k.within }
-
-  pub begin_filled : {cs' ws' ss' : List ℕ} {at : Slide} (f : ℕ) → f ≡ from → length cs' ≡ length cs → Filled ns p cs cs' ws' ss' at → Start ks f cs' ws' ss' at
-  begin_filled f e l m = record {
-    ready = m.ready;
-    places = all_map (λ x. from < event_at x) (λ x. f < event_at x) (λ x h. omega arith) ks k.places;
-    coords = all_map (λ x. event_coord x < length cs) (λ x. event_coord x < _) (λ x h. omega arith) ks k.coords;
-    counts = m.few;
-    few = k.key_few;
+module _ {ns ks : List ℕ} {from : ℕ} {cs ws ss : List ℕ} (k : Begin ns ks from cs ws ss) where
+  pub begin_empty : (m : MapperLists) {at : Slide} → m.counts.now ≡ cs → Slid (flags_of m.counts.now) (slide_of m.counts.now at) → Empty ns m at
+  begin_empty m e s = record {
+    pivot = record { slid = s };
+    none = λ j. ap (λ (xs : List ℕ). get_or (counts_of xs) j 0) e ∙ blank_none k.blank j;
+    numbers = all_map (λ i. i < length cs) (λ i. i < length m.counts.now) (λ i h. omega (arith, ap length e)) ns k.numbers;
+    few = k.few;
   }
 
-pub filled_best : {ns cs cs' ws' ss' : List ℕ} {p : ℕ} {at : Slide} (ks : List ℕ) (from f to t : ℕ) (r : Best) → f ≡ from → t ≡ to → Filled ns p cs cs' ws' ss' at → BestOf (flags_of cs') ks f t (counts_of cs') r
-    → (s : Sweep) → Asks s (flags_of cs) to → r ≡ best (spans_from s from (raised (take p ns) (counts_of cs)) ks)
-filled_best {cs' = cs'} ks from f to t r e g m b s a =
-    b s (record { order = a.order; flags = a.flags ∙ sym m.flags; end = a.end ∙ sym g }) ∙ ap (λ (q : ℕ). best (spans_from s q (counts_of cs') ks)) e ∙ ap (λ (ns : List ℕ). best (spans_from s from ns ks)) m.counts
+  pub begin_filled : (m n : MapperLists) {at : Slide} (f : ℕ) → m.counts.now ≡ cs → f ≡ from → Filled ns m n at → Start ks f n at
+  begin_filled m n f d e g =
+      let long : length n.counts.now ≡ length cs = same_length _ _ g.flags ∙ ap length d in
+      record {
+        pivot = g.pivot;
+        places = all_map (λ x. from < event_at x) (λ x. f < event_at x) (λ x h. omega arith) ks k.places;
+        coords = all_map (λ x. event_coord x < length cs) (λ x. event_coord x < length n.counts.now) (λ x h. omega arith) ks k.coords;
+        counts = g.few;
+        few = k.key_few;
+      }
 
 -- ---- the keys of a part
 
@@ -111,18 +118,23 @@ asc_kept from (e ∷ es) (x ∷ xs) r =
 
 -- ---- the sweep over a part
 
-module _ {starts ends ns keys cs ws ss out : List ℕ} {from : ℕ} (g : Given starts ends ns keys cs ws ss out from) (to : ℕ) where
-  pub given_local : Local from to starts ends ns keys out
+module _ {xs : Intervals} {ns keys cs ws ss out : List ℕ} {from : ℕ} (g : Given xs ns keys cs ws ss out from) (to : ℕ) where
+  abbrev starts : List ℕ
+  starts = xs.starts.now
+
+  abbrev ends : List ℕ
+  ends = xs.ends.now
+
+  pub given_local : Local from to xs ns keys out
   given_local = record {
-    parallel = g.parallel;
     taken = g.taken_are;
     few = g.few;
     key_room = g.key_room;
     room = g.room;
-    order = turns_asc from to (kept from ends starts) ns (asc_kept from ends starts g.starts_asc) (all_map (λ n. n < length cs) (λ n. n < 65536) (λ n h. omega (arith, g.blank.small)) ns g.numbers);
+    order = turns_asc from to (kept from ends starts) ns (asc_kept from ends starts xs.asc) (all_map (λ n. n < length cs) (λ n. n < 65536) (λ n h. omega (arith, g.blank.small)) ns g.numbers);
   }
 
-  module _ {out' : List ℕ} {r q : ℕ} (m : Made from to starts ends ns out' r q) where
+  module _ {out' : List ℕ} {r q : ℕ} (m : Made from to xs ns out' r q) where
     abbrev ks : List ℕ
     ks = take (q + r) out'
 
@@ -140,18 +152,17 @@ module _ {starts ends ns keys cs ws ss out : List ℕ} {from : ℕ} (g : Given s
         all_same (λ k. (from < event_at k) × (event_coord k < length cs)) ks both (sym m.merged.same)
         (all_append (λ k. (from < event_at k) × (event_coord k < length cs)) (start_keys from to starts ends ns) (end_keys from to ends ns) (keys_inside 1 from to (length cs) (omega arith) (omega (arith, g.blank.small)) (kept from ends starts) ns g.numbers) (keys_inside 0 from to (length cs) (omega arith) (omega (arith, g.blank.small)) (kept from ends ends) ns g.numbers))
 
-    pub given_begin : (p : ℕ) → p ≡ length ns - r → Begin ns ks p from cs ws ss
+    pub given_begin : (p : ℕ) → p ≡ length ns - r → Begin (take p ns) ks from cs ws ss
     given_begin p e = record {
       blank = g.blank;
-      numbers = g.numbers;
-      few = g.few;
-      within = omega arith;
+      numbers = all_take (λ n. n < length cs) p ns g.numbers;
+      few = omega (arith, length-take-le p ns (omega arith), g.few);
       places = all_map (λ k. (from < event_at k) × (event_coord k < length cs)) (λ k. from < event_at k) (λ k h. h.0) ks inside;
       coords = all_map (λ k. (from < event_at k) × (event_coord k < length cs)) (λ k. event_coord k < length cs) (λ k h. h.1) ks inside;
       key_few = omega (arith, length_same both ks m.merged.same, length-append (start_keys from to starts ends ns) (end_keys from to ends ns), keys_few 1 from to (kept from ends starts) ns, keys_few 0 from to (kept from ends ends) ns, g.few);
     }
 
-    pub given_best : (b : Best) (p : ℕ) → p ≡ length ns - r → ((s : Sweep) → Asks s (flags_of cs) to → b ≡ best (spans_from s from (raised (take p ns) (counts_of cs)) ks)) → (s : Sweep) → Tells s (flags_of cs) (counts_of cs) starts ends ns from to → b ≡ best (spans s)
+    pub given_best : (b : Best) (p : ℕ) → p ≡ length ns - r → ((s : Sweep) → Asks s (flags_of cs) to → b ≡ best (spans_from s from (raised (take p ns) (counts_of cs)) ks)) → (s : Sweep) → Tells s (flags_of cs) (counts_of cs) xs ns from to → b ≡ best (spans s)
     given_best b p e f s t =
         let begun : raised (take p ns) (counts_of cs) ≡ beginning s = ap (λ (n : ℕ). raised (take n ns) (counts_of cs)) (e ∙ ap (λ (n : ℕ). length ns - n) m.start_keys) ∙ sym t.begins in
         let all : sort_of ks ≡ sort_of (insert_keys s ++ delete_keys s) = m.merged.same ∙ ap sort_of (ap (λ (xs : List ℕ). xs ++ end_keys from to ends ns) (sym t.inserts) ∙ ap (λ (xs : List ℕ). insert_keys s ++ xs) (sym t.deletes)) in

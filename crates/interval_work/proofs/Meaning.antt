@@ -12,7 +12,7 @@ use borrow.Author.Tests.{lt-ltb, le-ltb, le-leb, lt-leb}
 use Rattle.base.specs.Pick.{pick}
 use Rattle.base.specs.Lists.{All, Asc, StrictAsc}
 use Rattle.base.proofs.Lists.{all_map}
-use Rattle.base.proofs.Order.{lt_or_ge}
+use Rattle.std.proofs.lemmas.Bool.{cases_lt}
 use Rattle.rules.specs.Lists.{filter}
 use Rattle.rules.specs.Score.{union, number_of}
 use Rattle.rules.specs.Script.{stepped, no_counts}
@@ -26,6 +26,7 @@ use Rattle.rules.proofs.IntervalTaken.{starts_of, starts_are}
 use Rattle.slide_mapper.specs.State.{flags_of, counts_of}
 use Rattle.slide_mapper.proofs.Marked.{ones_flags, ones_counts}
 use Rattle.coordinates.specs.Coordinates.{flags}
+use Rattle.interval_events.specs.declared.intervals.Intervals.{Intervals}
 use Rattle.interval_events.specs.Spans.{raised}
 use Rattle.interval_events.specs.Events.{kept, keys_of}
 use Rattle.interval_work.specs.Work.{start_keys, end_keys, Tells, Part}
@@ -111,7 +112,7 @@ module _ (from to : ℕ) where
       rw (lt-leb i.start from l, lt-ltb from i.start l, le-leb i.start to b.0, none) h.0)
       (λ (l : i.start ≤ from).
       let more : suc (length is) - length (filter later is) ≡ suc (length is - length (filter later is)) = omega (arith, length-filter later is) in
-      rw (le-leb i.start from l, le-ltb from i.start l, more) (ap (λ (xs : List Interval). i ∷ xs) (begin_first is r.1 b.1))) (lt_or_ge from i.start)
+      rw (le-leb i.start from l, le-ltb from i.start l, more) (ap (λ (xs : List Interval). i ∷ xs) (begin_first is r.1 b.1))) (cases_lt from i.start)
 
 inserted-raised : (coords hs counts : List ℕ) → inserted coords hs counts ≡ raised (map (number_of coords) hs) counts
 unfolding inserted raised
@@ -129,12 +130,21 @@ map-map f g (i ∷ is) = ap (λ (ys : List ℕ). f (g i) ∷ ys) (map-map f g is
 
 -- ---- the sweep that is told
 
-module _ {s : Sweep} {query hs ss es : List ℕ} {from to : ℕ} (k : Part s query hs ss es from to) (l : length ss ≡ length hs) (m : length es ≡ length hs) where
+module _ {s : Sweep} {query : List ℕ} {xs : Intervals} {from to : ℕ} (k : Part s query xs from to) where
+  abbrev hs : List ℕ
+  hs = xs.hashes.now
+
+  abbrev ss : List ℕ
+  ss = xs.starts.now
+
+  abbrev es : List ℕ
+  es = xs.ends.now
+
   abbrev ths : List ℕ
   ths = kept from es hs
 
   taken_hashes : hashes_of (taken s) ≡ ths
-  taken_hashes = ap hashes_of k.taken_is ∙ sym (kept_hashes from hs ss es l m)
+  taken_hashes = ap hashes_of k.taken_is ∙ sym (kept_hashes from hs ss es xs.same_starts xs.same_ends)
 
   pub part_items : length ths ≡ length (taken s)
   unfolding hashes_of
@@ -155,10 +165,10 @@ module _ {s : Sweep} {query hs ss es : List ℕ} {from to : ℕ} (k : Part s que
       map-map (number_of (coords_of s)) (λ i. i.hash) (taken s)
 
   starts_taken : kept from es ss ≡ starts_of (taken s)
-  starts_taken = kept_starts from hs ss es l m ∙ ap starts_of (sym k.taken_is)
+  starts_taken = kept_starts from hs ss es xs.same_starts xs.same_ends ∙ ap starts_of (sym k.taken_is)
 
   ends_taken : kept from es es ≡ ends_of (taken s)
-  ends_taken = kept_ends from hs ss es l m ∙ ap ends_of (sym k.taken_is)
+  ends_taken = kept_ends from hs ss es xs.same_starts xs.same_ends ∙ ap ends_of (sym k.taken_is)
 
   inserts_are : insert_keys s ≡ start_keys from to ss es ns
   inserts_are =
@@ -180,32 +190,31 @@ module _ {s : Sweep} {query hs ss es : List ℕ} {from to : ℕ} (k : Part s que
   unfolding hashes_of
   numbered n = map-map (number_of (coords_of s)) (λ i. i.hash) (take n (taken s)) ∙ map-take (coord_of (coords_of s)) n (taken s) ∙ ap (take n) (sym numbers_are)
 
-  module _ (r : Asc ss) where
-    first : filter (λ (i : Interval). leb i.start s.range.start) (taken s) ≡ take (length (taken s) - length (filter (starts_later s) (taken s))) (taken s)
-    first =
-        begin_first s.range.start s.range.end (taken s) (subst (λ (xs : List ℕ). Asc xs) starts_taken (asc_kept from es ss r))
-        (subst (λ (xs : List ℕ). All (λ p. p ≤ s.range.end) xs) starts_taken (all_kept (λ p. p ≤ s.range.end) from es ss (all_map (λ p. p ≤ to) (λ p. p ≤ s.range.end) (λ p h. omega (arith, k.end_is)) ss k.starts_end)))
+  first : filter (λ (i : Interval). leb i.start s.range.start) (taken s) ≡ take (length (taken s) - length (filter (starts_later s) (taken s))) (taken s)
+  first =
+      begin_first s.range.start s.range.end (taken s) (subst (λ (xs : List ℕ). Asc xs) starts_taken (asc_kept from es ss xs.asc))
+      (subst (λ (xs : List ℕ). All (λ p. p ≤ s.range.end) xs) starts_taken (all_kept (λ p. p ≤ s.range.end) from es ss (all_map (λ p. p ≤ to) (λ p. p ≤ s.range.end) (λ p h. omega (arith, k.end_is)) ss k.starts_end)))
 
-    begins_are : beginning s ≡ raised (take (length ns - length (start_keys from to ss es ns)) ns) (no_counts (coords_of s))
-    unfolding beginning
-    begins_are =
-        let u = coords_of s in
-        let n = length (taken s) - length (filter (starts_later s) (taken s)) in
-        let size : n ≡ length ns - length (start_keys from to ss es ns) =
-        omega (arith, ap length numbers_are, length-map (taken s) (coord_of u), ap length inserts_are, length-map (filter (starts_later s) (taken s)) (λ (i : Interval). event_key i.start 1 (coord_of u i))) in
-        inserted-raised u (hashes_of (filter (λ (i : Interval). leb i.start s.range.start) (taken s))) (no_counts u) ∙
-        ap (λ (xs : List ℕ). raised xs (no_counts u)) (ap (λ (is : List Interval). map (number_of u) (hashes_of is)) first ∙ numbered n ∙ ap (λ (t : ℕ). take t ns) size)
+  begins_are : beginning s ≡ raised (take (length ns - length (start_keys from to ss es ns)) ns) (no_counts (coords_of s))
+  unfolding beginning
+  begins_are =
+      let u = coords_of s in
+      let n = length (taken s) - length (filter (starts_later s) (taken s)) in
+      let size : n ≡ length ns - length (start_keys from to ss es ns) =
+      omega (arith, ap length numbers_are, length-map (taken s) (coord_of u), ap length inserts_are, length-map (filter (starts_later s) (taken s)) (λ (i : Interval). event_key i.start 1 (coord_of u i))) in
+      inserted-raised u (hashes_of (filter (λ (i : Interval). leb i.start s.range.start) (taken s))) (no_counts u) ∙
+      ap (λ (xs : List ℕ). raised xs (no_counts u)) (ap (λ (is : List Interval). map (number_of u) (hashes_of is)) first ∙ numbered n ∙ ap (λ (t : ℕ). take t ns) size)
 
-    pub part_tells : StrictAsc query → (cs : List ℕ) → cs ≡ flags query (union query ths) → Tells s (flags_of cs) (counts_of cs) ss es ns from to
-    unfolding flags
-    part_tells rq cs e = record {
-      asks = record {
-        order = subst (λ (xs : List ℕ). StrictAsc xs) (sym k.query_is) rq;
-        flags = ap (λ (q : List ℕ). marks q (coords_of s)) k.query_is ∙ ap (marks query) part_coords ∙ sym (ones_flags query (union query ths)) ∙ ap flags_of (sym e);
-        end = k.end_is;
-      };
-      start = k.start_is;
-      inserts = inserts_are;
-      deletes = deletes_are;
-      begins = begins_are ∙ ap (raised (take (length ns - length (start_keys from to ss es ns)) ns)) (ap no_counts part_coords ∙ sym (ones_counts query (union query ths)) ∙ ap counts_of (sym e));
-    }
+  pub part_tells : StrictAsc query → (cs : List ℕ) → cs ≡ flags query (union query ths) → Tells s (flags_of cs) (counts_of cs) xs ns from to
+  unfolding flags
+  part_tells rq cs e = record {
+    asks = record {
+      order = subst (λ (xs : List ℕ). StrictAsc xs) (sym k.query_is) rq;
+      flags = ap (λ (q : List ℕ). marks q (coords_of s)) k.query_is ∙ ap (marks query) part_coords ∙ sym (ones_flags query (union query ths)) ∙ ap flags_of (sym e);
+      end = k.end_is;
+    };
+    start = k.start_is;
+    inserts = inserts_are;
+    deletes = deletes_are;
+    begins = begins_are ∙ ap (raised (take (length ns - length (start_keys from to ss es ns)) ns)) (ap no_counts part_coords ∙ sym (ones_counts query (union query ths)) ∙ ap counts_of (sym e));
+  }

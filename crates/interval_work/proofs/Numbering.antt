@@ -1,11 +1,11 @@
 -- The coordinates at the fronts of the lent lists: the flags in the count words, with which the mapper may begin over zero bit words, and the numbers of the items
 -- behind those of the query. Assumes nothing.
-use mathlib.Core.Path.{◌≡◌, refl, sym, ap, ◌∙◌}
+use mathlib.Core.Path.{◌≡◌, sym, ap, ◌∙◌}
 use mathlib.Core.Bool.{true, or-true}
 use mathlib.Core.List.{List, [], ◌∷◌, ◌++◌, map, map-append, append_assoc}
-use Prim.Native.Nat.{ℕ, zero, suc, ◌+◌, ◌-◌, ◌*◌, ◌≤◌, ◌<◌}
+use Prim.Native.Nat.{ℕ, ◌+◌, ◌-◌, ◌*◌, ◌≤◌, ◌<◌}
 use native.Mathlib.Omega.{arith}
-use lib.ListN.{length, take, drop, replicate, length-map}
+use lib.ListN.{length, take, drop, length-map}
 use lib.Seq.{take_at, drop_at, length-take-le}
 use Rattle.base.specs.Lists.{All, StrictAsc}
 use Rattle.rules.specs.Lists.{member}
@@ -17,19 +17,9 @@ use Rattle.summary_bits.proofs.Words.{clear_bits}
 use Rattle.summary_bits.proofs.Kept.{clear_summary}
 use Rattle.slide_mapper.specs.State.{flags_of, Blank}
 use Rattle.slide_mapper.proofs.Marked.{ones-length, ones_low, ones-size}
-use Rattle.coordinates.specs.Coordinates.{flags, numbers, Asked, Answered}
+use Rattle.coordinates.specs.Coordinates.{flags, numbers, Answered}
 use Rattle.interval_work.specs.Work.{Zero, Rooms, Numbers}
 use Rattle.interval_events.proofs.Gathering.{take_behind}
-
--- ---- zero lists
-
-zeros_take : (m n : ℕ) → m ≤ n → take {A = ℕ} m (replicate n 0) ≡ replicate m 0
-zeros_take zero n l = refl
-zeros_take (suc m) zero l = absurd (omega arith)
-zeros_take (suc m) (suc n) l = ap (λ (xs : List ℕ). 0 ∷ xs) (zeros_take m n (omega arith))
-
-pub zero_front : {m : ℕ} {xs : List ℕ} → Zero m xs → take m xs ≡ replicate m 0
-zero_front {m} {xs} z = ap (take m) z.zeros ∙ zeros_take m (length xs) z.long
 
 -- ---- the mapper may begin
 
@@ -55,12 +45,6 @@ flags_blank query hashes m {cs} {ws} {ss} {n} rq some e l small y z few high =
 module _ {query hashes keys counts coords : List ℕ} (r : Rooms query hashes keys counts coords) where
   abbrev m : ℕ
   m = length query + length hashes
-
-  pub rooms_asked : Asked query hashes (take m keys) (take m counts) (take m coords)
-  rooms_asked = record {
-    lent = record { few = r.few; key_room = length-take-le m keys r.key_room; coord_room = length-take-le m coords r.coord_room };
-    blank = zero_front r.count_room;
-  }
 
   pub rooms_numbers : {last last' : List ℕ} {c : ℕ} → length last' ≡ length (take m coords) → Answered query hashes (take m counts) last last' c → Numbers query hashes (last ++ drop m counts) (last' ++ drop m coords) c
   unfolding flags

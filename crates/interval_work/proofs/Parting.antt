@@ -19,6 +19,9 @@ use Rattle.slide_mapper.specs.State.{flags_of, counts_of}
 use Rattle.slide_mapper.proofs.Marked.{ones-length}
 use Rattle.coordinates.specs.Coordinates.{flags}
 use Rattle.interval_events.specs.Events.{kept, Front}
+use Rattle.std.specs.Prelude.{None, Some}
+use Rattle.sweep.specs.declared.work.Work.{Work}
+use Rattle.interval_events.specs.declared.intervals.Intervals.{Intervals}
 use Rattle.interval_work.specs.Work.{Given, Tells, Zero, Rooms, Numbers, Part, Lent, Found}
 use Rattle.interval_events.proofs.Gathering.{front_long, kept_many, pick-length}
 use Rattle.interval_work.proofs.Numbering.{flags_blank, items_behind, items_inside}
@@ -33,14 +36,23 @@ kept_few from (e ∷ es) (x ∷ xs) = omega (arith, length-append (pick (ltb fro
 zero_less : {m : ℕ} {xs : List ℕ} (n : ℕ) → n ≤ m → Zero m xs → Zero n xs
 zero_less n l z = record { zeros = z.zeros; long = omega (arith, z.long) }
 
-module _ {query hs ss es keys counts coords words summary out : List ℕ} (g : Lent query hs ss es keys counts coords words summary out) (from : ℕ) {ev : List ℕ} {n : ℕ} (f : Front (kept from es hs) ev n) where
+module _ {query : List ℕ} {xs : Intervals} {w : Work} {out : List ℕ} (g : Lent query xs w out) (from : ℕ) {ev : List ℕ} {n : ℕ} (f : Front (kept from xs.ends.now xs.hashes.now) ev n) where
+  abbrev hs : List ℕ
+  hs = xs.hashes.now
+
+  abbrev ss : List ℕ
+  ss = xs.starts.now
+
+  abbrev es : List ℕ
+  es = xs.ends.now
+
   abbrev ths : List ℕ
   ths = kept from es hs
 
   pub part_few : n ≤ length hs
   part_few = omega (arith, f.many, kept_few from es hs)
 
-  pub part_rooms : Rooms query (take n ev) keys counts coords
+  pub part_rooms : Rooms query (take n ev) w.keys.now w.counts.now w.coords.now
   part_rooms =
       let long = front_long f in
       record {
@@ -50,10 +62,8 @@ module _ {query hs ss es keys counts coords words summary out : List ℕ} (g : L
         coord_room = omega (arith, part_few, g.coord_room);
       }
 
-  pub part_none : n ≡ 0 → (b : Best) (to : ℕ) (s : Sweep) → Part s query hs ss es from to → Found s (record { best = b; coords = 0; items = 0 })
-  part_none e b to s k =
-      let none : length (taken s) ≡ 0 = sym (part_items k g.same_starts g.same_ends) ∙ sym f.many ∙ e in
-      record { items_are = sym none; coords_are = λ l. absurd (omega arith); best_is = λ l. absurd (omega arith) }
+  pub part_none : n ≡ 0 → (to : ℕ) (s : Sweep) → Part s query xs from to → Found s None
+  part_none e to s k = sym (part_items k) ∙ sym f.many ∙ e
 
   module _ {counts' coords' : List ℕ} {c : ℕ} (a : Numbers query (take n ev) counts' coords' c) where
     abbrev u : List ℕ
@@ -79,25 +89,25 @@ module _ {query hs ss es keys counts coords words summary out : List ℕ} (g : L
     unfolding flags
     flags_long = ap length told.flags_are ∙ ones-length query u
 
-    pub part_given : (keys' out' : List ℕ) → length keys' ≡ length keys → length out' ≡ length out → Given ss es ns keys' (take c counts') words summary out' from
+    pub part_given : (keys' out' : List ℕ) → length keys' ≡ length w.keys.now → length out' ≡ length out → Given xs ns keys' (take c counts') w.words.now w.summary.now out' from
     part_given keys' out' kl ol = record {
-      parallel = g.same_ends ∙ sym g.same_starts;
-      taken_are = ns_long ∙ f.many ∙ kept_many from es hs ss g.same_ends (g.same_ends ∙ sym g.same_starts);
+      taken_are = ns_long ∙ f.many ∙ kept_many from es hs ss xs.same_ends (xs.same_ends ∙ sym xs.same_starts);
       few = omega (arith, ns_long, part_few, g.few_items);
       key_room = omega (arith, ns_long, part_few, g.key_room);
       room = omega (arith, ns_long, part_few, g.room);
-      starts_asc = g.starts_asc;
       blank = flags_blank query ths (length query + length hs) g.query_asc g.some told.flags_are (omega (arith, part_coords_few, part_few, told.many)) (omega (arith, g.few_hashes, g.few_items)) g.word_room g.summary_room g.word_few (omega (arith, g.summary_room.long));
       numbers = subst (λ (xs : List ℕ). All (λ i. i < length (take c counts')) xs) (sym ns_are) (all_map (λ i. i < length u) (λ i. i < length (take c counts')) (λ i l. omega (arith, flags_long)) (map (number_of u) ths) (items_inside query ths));
     }
 
-    pub part_found : (b : Best) (to : ℕ) → ((s : Sweep) → Tells s (flags_of (take c counts')) (counts_of (take c counts')) ss es ns from to → b ≡ best (spans s)) → (s : Sweep) → Part s query hs ss es from to → Found s (record { best = b; coords = c; items = n })
-    part_found b to h s k = record {
-      items_are = f.many ∙ part_items k g.same_starts g.same_ends;
-      coords_are = λ l. told.many ∙ ap length (sym (part_coords k g.same_starts g.same_ends));
-      best_is =
-          λ l.
-          h s
-          (subst (λ (xs : List ℕ). Tells s (flags_of (take c counts')) (counts_of (take c counts')) ss es xs from to) (sym ns_are)
-          (part_tells k g.same_starts g.same_ends g.starts_asc g.query_asc (take c counts') told.flags_are));
-    }
+    pub part_found : 0 < n → (b : Best) (to : ℕ) → ((s : Sweep) → Tells s (flags_of (take c counts')) (counts_of (take c counts')) xs ns from to → b ≡ best (spans s)) → (s : Sweep) → Part s query xs from to → Found s (Some (record { best = b; coords = c; items = n }))
+    part_found l b to h s k =
+        let items : n ≡ length (taken s) = f.many ∙ part_items k in
+        record {
+          some = omega arith;
+          items_are = items;
+          coords_are = told.many ∙ ap length (sym (part_coords k));
+          best_is =
+              h s
+              (subst (λ (xs' : List ℕ). Tells s (flags_of (take c counts')) (counts_of (take c counts')) xs xs' from to) (sym ns_are)
+              (part_tells k g.query_asc (take c counts') told.flags_are));
+        }

@@ -7,12 +7,15 @@ use mathlib.Core.Bool.{Bool, true, false}
 use mathlib.Core.List.{List, [], ◌∷◌, ◌++◌}
 use native.Mathlib.Nat.{add-mod, zero-mod, mod_self, div-mul-le_self, mul-le-mul_right, suc-mul}
 use native.Mathlib.Omega.{arith}
-use borrow.Author.Tests.{eq-eqb, ne_eqb, ltb-false, eqb-true}
+use borrow.Author.Tests.{eq-eqb, ne_eqb, ltb-false, eqb-true, eqb-false}
 use lib.Dec.{ltb, eqb}
 use lib.ListN.{length, get_or, drop, length-append}
 use lib.Seq.{append_snoc}
+use Rattle.std.specs.Prelude.{Option, Some, None}
 use Rattle.base.specs.Pick.{pick}
-use Rattle.base.proofs.Order.{eq_or_ne, lt_or_ge}
+use Rattle.base.specs.declared.Reason.{Reason}
+use Rattle.base.specs.declared.Reason.TheVariants.{JobTooLong}
+use Rattle.std.proofs.lemmas.Bool.{cases_eq, cases_lt}
 use Rattle.rules.specs.Lists.{filter}
 use Rattle.rules.specs.Limits.{job_limit}
 use Rattle.rules.specs.Job.{FieldRow, single, optional, several, joining, field_table, Field, joined_data, mode_of, tag_before, unit_of, fits, too_many, fault_of, field_at, length_at, is_cut, refused_at, whole, after_end, read_from, read, units}
@@ -24,7 +27,7 @@ use Rattle.job_fields.proofs.Fields.{joined_none, joined_here, joined_past, join
 use Rattle.job_fields.proofs.Heads.{cut_header}
 use Rattle.job_fields.proofs.Steps.{in_order, row_tag, reads_cut, reads_fault, reads_end, reads_on}
 use Rattle.job.proofs.UnitLists.{units_none, units-append, units_count}
-use Rattle.job.proofs.Units.{fields_cut, fields_next}
+use Rattle.job.proofs.Finding.{fields_cut, fields_next}
 
 -- ---- of each field
 
@@ -54,7 +57,7 @@ module _ (row : FieldRow) (is_row : rows_with row.tag ≡ row ∷ []) (late : 2 
   sound_none : Sound row []
   sound_none = record { fitting = tt; within = omega (arith, ap length (joined_none row.tag)); low = tt }
 
-  module _ (seen : List Field) (f : Field) (s : Sound row seen) (none : fault_of seen f ≡ 0) where
+  module _ (seen : List Field) (f : Field) (s : Sound row seen) (none : fault_of seen f ≡ None) where
     abbrev all : List Field
     all = seen ++ (f ∷ [])
 
@@ -92,7 +95,7 @@ module _ (row : FieldRow) (is_row : rows_with row.tag ≡ row ∷ []) (late : 2 
         let count = ap (λ (t : ℕ). length (joined_data t seen)) e in
         record {
           fitting = subst (λ (m : ℕ). Each (Fitting m row) all) (sym mode) (each_more (Fitting (mode_of seen) row) seen f s.fitting (λ x. fit));
-          within = subst (λ (m : ℕ). length (joined_data row.tag all) ≤ row.limit * unit_of m row) (sym mode) (⊎_elim (λ l. absurd (few (omega (arith, l, more, count)))) (λ l. l) (lt_or_ge (row.limit * unit_of (mode_of seen) row) (length (joined_data row.tag all))));
+          within = subst (λ (m : ℕ). length (joined_data row.tag all) ≤ row.limit * unit_of m row) (sym mode) (⊎_elim (λ l. absurd (few (omega (arith, l, more, count)))) (λ l. l) (cases_lt (row.limit * unit_of (mode_of seen) row) (length (joined_data row.tag all))));
           low = lower;
         }
 
@@ -117,7 +120,7 @@ module _ (row : FieldRow) (is_row : rows_with row.tag ≡ row ∷ []) (late : 2 
 
     sound_more : Sound row all
     sound_more =
-        ⊎_elim (λ (e : f.tag ≡ row.tag). sound_here e) (λ (n : f.tag ≢ row.tag). ⊎_elim (λ (e : f.tag ≡ 2). sound_mode e) (λ (m : f.tag ≢ 2). sound_other n m) (eq_or_ne f.tag 2)) (eq_or_ne f.tag row.tag)
+        ⊎_elim (λ (e : f.tag ≡ row.tag). sound_here e) (λ (n : f.tag ≢ row.tag). ⊎_elim (λ (e : f.tag ≡ 2). sound_mode e) (λ (m : f.tag ≢ 2). sound_other n m) (cases_eq f.tag 2)) (cases_eq f.tag row.tag)
 
   -- ---- the whole reading
 
@@ -131,9 +134,9 @@ module _ (row : FieldRow) (is_row : rows_with row.tag ≡ row ∷ []) (late : 2 
     abbrev Goal : Type 0
     Goal = Sound row all × (all ≡ seen ++ fields_in bytes)
 
-    module _ (c : is_cut bytes ≡ false) (n : ltb 0 (fault_of seen f) ≡ false) where
+    module _ (c : is_cut bytes ≡ false) (n : fault_of seen f ≡ None) where
       sounder : Sound row (seen ++ (f ∷ []))
-      sounder = sound_more seen f s (omega (arith, ltb-false 0 (fault_of seen f) n))
+      sounder = sound_more seen f s n
 
       -- FF, with nothing behind it
       by_rest : (l : List ℕ) → rest ≡ l → after_end (at + (3 + length_at bytes)) (seen ++ (f ∷ [])) l ≡ whole all → Goal
@@ -144,22 +147,22 @@ module _ (row : FieldRow) (is_row : rows_with row.tag ≡ row ∷ []) (late : 2 
           (subst (Sound row) (sym is) sounder, is ∙ ap (λ (fs : List Field). seen ++ (f ∷ fs)) (sym none) ∙ ap (λ (fs : List Field). seen ++ fs) (sym (fields_next bytes c)))
       by_rest (x ∷ l) r h = absurd (let z : ◌≡◌ {A = ℕ} 0 1 = cc in omega arith)
 
-      by_end : (b : Bool) → eqb (get_or bytes 0 0) 255 ≡ b
+      by_end : (b : Bool) → eqb f.tag 255 ≡ b
           → (Sound row (seen ++ (f ∷ [])) → read_from fuel (at + (3 + length_at bytes)) (seen ++ (f ∷ [])) rest ≡ whole all → Sound row all × (all ≡ (seen ++ (f ∷ [])) ++ fields_in rest)) → Goal
-      by_end true t rec = by_rest rest refl (sym (reads_end fuel at seen bytes c n t) ∙ e)
+      by_end true t rec = by_rest rest refl (sym (reads_end fuel at seen bytes c n (eqb-true f.tag 255 t)) ∙ e)
       by_end false t rec =
-          let r = rec sounder (sym (reads_on fuel at seen bytes c n t) ∙ e) in
+          let r = rec sounder (sym (reads_on fuel at seen bytes c n (eqb-false f.tag 255 t)) ∙ e) in
           (r.0, r.1 ∙ append_snoc seen f (fields_in rest) ∙ ap (λ (fs : List Field). seen ++ fs) (sym (fields_next bytes c)))
 
-    by_fault : (b : Bool) → ltb 0 (fault_of seen f) ≡ b → is_cut bytes ≡ false
+    by_fault : (o : Option Reason) → fault_of seen f ≡ o → is_cut bytes ≡ false
         → (Sound row (seen ++ (f ∷ [])) → read_from fuel (at + (3 + length_at bytes)) (seen ++ (f ∷ [])) rest ≡ whole all → Sound row all × (all ≡ (seen ++ (f ∷ [])) ++ fields_in rest)) → Goal
-    by_fault true n c rec = absurd (let q = sym e ∙ reads_fault fuel at seen bytes c n in let z : ◌≡◌ {A = ℕ} 0 1 = cc in omega arith)
-    by_fault false n c rec = by_end c n (eqb (get_or bytes 0 0) 255) refl rec
+    by_fault (Some why) n c rec = absurd (let q = sym e ∙ reads_fault fuel at seen bytes c why n in let z : ◌≡◌ {A = ℕ} 0 1 = cc in omega arith)
+    by_fault None n c rec = by_end c n (eqb f.tag 255) refl rec
 
     by_cut : (b : Bool) → is_cut bytes ≡ b
         → (Sound row (seen ++ (f ∷ [])) → read_from fuel (at + (3 + length_at bytes)) (seen ++ (f ∷ [])) rest ≡ whole all → Sound row all × (all ≡ (seen ++ (f ∷ [])) ++ fields_in rest)) → Goal
     by_cut true c rec = absurd (let q = sym e ∙ reads_cut fuel at seen bytes c in let z : ◌≡◌ {A = ℕ} 0 1 = cc in omega arith)
-    by_cut false c rec = by_fault (ltb 0 (fault_of seen f)) refl c rec
+    by_cut false c rec = by_fault (fault_of seen f) refl c rec
 
   reading : (fuel at : ℕ) (seen : List Field) (bytes : List ℕ) (all : List Field) → Sound row seen → read_from fuel at seen bytes ≡ whole all
       → Sound row all × (all ≡ seen ++ fields_in bytes)
@@ -172,7 +175,7 @@ pub read_small : (job : List ℕ) (all : List Field) → read job ≡ whole all 
 unfolding read pick
 read_small job all e = go (ltb job_limit (length job)) refl e
   where
-    go : (b : Bool) → ltb job_limit (length job) ≡ b → pick b (refused_at 11 0) (read_from (suc (length job)) 0 [] job) ≡ whole all → (length job ≤ job_limit) × (read_from (suc (length job)) 0 [] job ≡ whole all)
+    go : (b : Bool) → ltb job_limit (length job) ≡ b → pick b (refused_at JobTooLong 0) (read_from (suc (length job)) 0 [] job) ≡ whole all → (length job ≤ job_limit) × (read_from (suc (length job)) 0 [] job ≡ whole all)
     go true t e = absurd (let z : ◌≡◌ {A = ℕ} 0 1 = cc in omega arith)
     go false t e = (ltb-false job_limit (length job) t, e)
 
@@ -190,7 +193,7 @@ module _ (t u : ℕ) (some : 0 < u) where
       (λ (h : f.tag ≡ t). ap (λ (us : List (List ℕ)). us ++ units_in u t fs) (pick_yes _ _ _ (eq-eqb f.tag t h)) ∙ ap (λ (us : List (List ℕ)). units u f.bytes ++ us) (joined_units fs e.1) ∙
       sym (ap (units u) (joined_here t f fs h) ∙ units-append u some f.bytes (joined_data t fs) (e.0 h)))
       (λ (h : f.tag ≢ t). ap (λ (us : List (List ℕ)). us ++ units_in u t fs) (pick_no _ _ _ (ne_eqb f.tag t h)) ∙ joined_units fs e.1 ∙ sym (ap (units u) (joined_past t f fs h)))
-      (eq_or_ne f.tag t)
+      (cases_eq f.tag t)
 
   pub joined_whole : (fs : List Field) → Each Whole fs → length (joined_data t fs) % u ≡ 0
   joined_whole [] e = ap (λ (l : List ℕ). length l % u) (joined_none t) ∙ zero-mod u
@@ -199,7 +202,7 @@ module _ (t u : ℕ) (some : 0 < u) where
       (λ (h : f.tag ≡ t). ap (λ (l : List ℕ). length l % u) (joined_here t f fs h) ∙ ap (λ (k : ℕ). k % u) (length-append f.bytes (joined_data t fs)) ∙
       add-mod (length f.bytes) (length (joined_data t fs)) u ∙ ap (λ (k : ℕ). (k + length (joined_data t fs) % u) % u) (e.0 h) ∙ ap (λ (k : ℕ). (0 + k) % u) (joined_whole fs e.1) ∙ zero-mod u)
       (λ (h : f.tag ≢ t). ap (λ (l : List ℕ). length l % u) (joined_past t f fs h) ∙ joined_whole fs e.1)
-      (eq_or_ne f.tag t)
+      (cases_eq f.tag t)
 
 fits_whole : (mode : ℕ) (row : FieldRow) (n : ℕ) → fits mode row n ≡ true → n % unit_of mode row ≡ 0
 unfolding fits pick
@@ -211,7 +214,7 @@ fits_whole mode row n e = go row.one e
 
 few_units : (n u limit : ℕ) → 0 < u → n ≤ limit * u → n / u ≤ limit
 few_units n u limit some h =
-    ⊎_elim (λ (l : limit < n / u). absurd (let m : suc limit * u ≤ n / u * u = mul-le-mul_right u l in omega (arith, m, div-mul-le_self n u, suc-mul limit u))) (λ (l : n / u ≤ limit). l) (lt_or_ge limit (n / u))
+    ⊎_elim (λ (l : limit < n / u). absurd (let m : suc limit * u ≤ n / u * u = mul-le-mul_right u l in omega (arith, m, div-mul-le_self n u, suc-mul limit u))) (λ (l : n / u ≤ limit). l) (cases_lt limit (n / u))
 
 unit_same : (mode : ℕ) (row : FieldRow) (u : ℕ) → row.unit ≡ u → row.unit_of_interval ≡ u → unit_of mode row ≡ u
 unfolding unit_of pick

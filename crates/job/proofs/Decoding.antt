@@ -1,124 +1,106 @@
 -- What the second pass reads is what the rules decode: the columns are the units of the joined fields, and the first unit of a field that stands once is that field.
 -- Assumes nothing.
-use Prim.Native.Nat.{ℕ, ◌+◌, ◌/◌, ◌%◌, ◌<◌, ◌≤◌}
-use mathlib.Core.Path.{◌≡◌, sym, ap, ◌∙◌, subst}
+use Prim.Native.Nat.{ℕ, ◌+◌, ◌/◌, ◌≤◌}
+use mathlib.Core.Path.{◌≡◌, refl, sym, ap, ◌∙◌, subst}
+use mathlib.Core.Bool.{Bool, true, false}
 use mathlib.Core.List.{List, [], ◌∷◌, map}
-use native.Mathlib.Nat.{mod-one}
 use native.Mathlib.Omega.{arith}
-use borrow.Author.Tests.{eq-eqb, ne_eqb}
+use borrow.Author.Tests.{eq-eqb, ne_eqb, eqb-true}
+use lib.Dec.{eqb}
+use Rattle.base.specs.Pick.{pick}
 use lib.Ieee.{Float, binary64, of_bits}
-use lib.ListN.{length, get_or, take, drop, length-map}
-use lib.Seq.{get_or-take, take_all}
+use lib.ListN.{length, take, replicate, length-map}
+use lib.Seq.{take_all, take-take}
+use Rattle.std.proofs.Common.{Bor}
+use Rattle.std.specs.Prelude.{Option, Some, None, MatchOption, unwrap_or}
 use Rattle.base.specs.Buffers.{over}
-use Rattle.rules.specs.Job.{Field, joined_data, mode_of, job_of, number, number_at, units}
-use Rattle.job.specs.Units.{fields_in, units_from, Stands, Met, column_of, float_at, Column, Each, Joined, item_unit, Accepted}
+use Rattle.rules.specs.Job.{joined_data, mode_of, job_of, number, number_at, units}
+use Rattle.job.specs.Units.{fields_in, column_of, float_at, Joined, item_unit, Accepted}
 use Rattle.job.specs.Read.{asked_by, asked_of, decoded, decoded_of, lists_of, filled, Items, Estimates}
-use Rattle.job.specs.declared.fill.Cursor.{Cursor}
 use Rattle.job.specs.declared.fill.Asked.{Asked}
 use Rattle.job.specs.declared.fill.Decoded.{Decoded}
+use Rattle.job_fields.specs.Mode.{mode_at}
+use Rattle.job_fields.specs.declared.mode.Mode.{Mode}
+use Rattle.job_fields.specs.declared.mode.Mode.TheVariants.{Minimizer, Interval}
 use Rattle.job_fields.proofs.Picks.{pick_yes, pick_no}
-use Rattle.job_fields.proofs.Heads.{first_drop}
 use Rattle.job.proofs.UnitLists.{units_first, units_empty, units_number}
 use Rattle.job.proofs.Numbers.{number_in}
-use Rattle.job.proofs.Units.{unit_past}
-use Rattle.job.proofs.Accepted.{joined_units, joined_whole}
 
--- where a search begins
-abbrev pub front : Cursor
-front = record { at = 0; end = 0 }
+-- ---- a field that stands once: its first unit, or, where there is none, no byte
 
-pub front_stands : (job : List ℕ) → Stands job front
-front_stands job = record { order = omega arith; inside = omega arith }
+module _ (job : List ℕ) (tag n limit : ℕ) (j : Joined job tag n limit) where
+  pub first_at : (u : List ℕ) (us : List (List ℕ)) → column_of job tag n ≡ u ∷ us → take n (joined_data tag (fields_in job)) ≡ u
+  first_at u us e = units_first n j.some (joined_data tag (fields_in job)) u us (sym j.is ∙ e)
 
--- ---- a field that stands once
-
-module _ (job : List ℕ) (tag n : ℕ) (some : 0 < n) (is : column_of job tag n ≡ units n (joined_data tag (fields_in job))) where
-  front-units : units_from n tag job front ≡ units n (joined_data tag (fields_in job))
-  unfolding column_of
-  front-units = unit_past n tag some job front (front_stands job) some ∙ is
-
-  pub first_at : {p : ℕ} {c : Cursor} → Met n tag job (units_from n tag job front) p c → take n (joined_data tag (fields_in job)) ≡ take n (drop p job)
-  first_at {p} {c} m = units_first n some (joined_data tag (fields_in job)) (take n (drop p job)) (units_from n tag job c) (sym front-units ∙ m.is)
-
-  pub first_none : length (joined_data tag (fields_in job)) % n ≡ 0 → units_from n tag job front ≡ [] → joined_data tag (fields_in job) ≡ []
-  first_none w e = units_empty n some (joined_data tag (fields_in job)) (sym front-units ∙ e) w
-
--- 02: every byte is a unit
-
-each_all : (P : Field → Type 0) → ((f : Field) → P f) → (fs : List Field) → Each P fs
-each_all P h [] = tt
-each_all P h (f ∷ fs) = (h f, each_all P h fs)
-
-module _ (job : List ℕ) where
-  bytes_whole : Each (λ f. f.tag ≡ 2 → length f.bytes % 1 ≡ 0) (fields_in job)
-  bytes_whole = each_all (λ f. f.tag ≡ 2 → length f.bytes % 1 ≡ 0) (λ f t. mod-one (length f.bytes)) (fields_in job)
-
-  mode_units : column_of job 2 1 ≡ units 1 (joined_data 2 (fields_in job))
-  unfolding column_of
-  mode_units = joined_units 2 1 (omega arith) (fields_in job) bytes_whole
-
-  pub mode_at : {p : ℕ} {c : Cursor} → Met 1 2 job (units_from 1 2 job front) p c → get_or job p 0 ≡ mode_of (fields_in job)
-  unfolding mode_of
-  mode_at {p} {c} m =
-      let joint = joined_data 2 (fields_in job) in
-      sym (sym (get_or-take 1 joint 0 0 (omega arith)) ∙ ap (λ (l : List ℕ). get_or l 0 0) (first_at job 2 1 (omega arith) mode_units m) ∙ get_or-take 1 (drop p job) 0 0 (omega arith) ∙ first_drop p job)
-
-  pub mode_none : units_from 1 2 job front ≡ [] → 0 ≡ mode_of (fields_in job)
-  unfolding mode_of
-  mode_none e = sym (ap (λ (l : List ℕ). get_or l 0 0) (first_none job 2 1 (omega arith) mode_units (joined_whole 2 1 (omega arith) (fields_in job) bytes_whole) e))
+  pub first_none : column_of job tag n ≡ [] → joined_data tag (fields_in job) ≡ []
+  first_none e = units_empty n j.some (joined_data tag (fields_in job)) (sym j.is ∙ e) j.whole
 
 -- 03
 
 module _ (job : List ℕ) (j : Joined job 3 20 1) where
-  number_there : {p : ℕ} {c : Cursor} → Met 20 3 job (units_from 20 3 job front) p c → (o : ℕ) → o + 4 ≤ 20 → number (take 4 (drop (p + o) job)) ≡ number_at o 4 (joined_data 3 (fields_in job))
-  unfolding number_at
-  number_there {p} {c} m o h =
-      let bytes = joined_data 3 (fields_in job) in
-      let begin : 0 + o ≡ o = omega arith in
-      sym (number_in job p o 4 20 h) ∙ ap (number_at o 4) (sym (first_at job 3 20 j.some j.is m)) ∙ number_in bytes 0 o 4 20 h ∙ ap (λ (k : ℕ). number (take 4 (drop k bytes))) begin
+  -- a number in the unit, or in twenty zeros where there is none
+  pub number_there : (u : List ℕ) (us : List (List ℕ)) → column_of job 3 20 ≡ u ∷ us → (o : ℕ) → o + 4 ≤ 20 → number_at o 4 u ≡ number_at o 4 (joined_data 3 (fields_in job))
+  number_there u us e o h = ap (number_at o 4) (sym (first_at job 3 20 1 j u us e)) ∙ number_in (joined_data 3 (fields_in job)) o 4 20 h
 
-  pub asked_at : {p : ℕ} {c : Cursor} → Met 20 3 job (units_from 20 3 job front) p c → (x₀ x₁ x₂ x₃ x₄ : ℕ)
-      → x₀ ≡ number (take 4 (drop p job)) → x₁ ≡ number (take 4 (drop (p + 4) job)) → x₂ ≡ number (take 4 (drop (p + 8) job))
-      → x₃ ≡ number (take 4 (drop (p + 12) job)) → x₄ ≡ number (take 4 (drop (p + 16) job))
-      → asked_by x₀ x₁ x₂ x₃ x₄ ≡ asked_of (joined_data 3 (fields_in job))
+  pub asked_at : (u : List ℕ) (us : List (List ℕ)) → column_of job 3 20 ≡ u ∷ us
+      → asked_by (number_at 0 4 u) (number_at 4 4 u) (number_at 8 4 u) (number_at 12 4 u) (number_at 16 4 u) ≡ asked_of (joined_data 3 (fields_in job))
   unfolding asked_of
-  asked_at {p} {c} m x₀ x₁ x₂ x₃ x₄ e₀ e₁ e₂ e₃ e₄ =
-      let here : p ≡ p + 0 = omega arith in
-      let y₀ = e₀ ∙ ap (λ (k : ℕ). number (take 4 (drop k job))) here ∙ number_there m 0 (omega arith) in
-      let y₁ = e₁ ∙ number_there m 4 (omega arith) in
-      let y₂ = e₂ ∙ number_there m 8 (omega arith) in
-      let y₃ = e₃ ∙ number_there m 12 (omega arith) in
-      let y₄ = e₄ ∙ number_there m 16 (omega arith) in
+  asked_at u us e =
+      let x₀ = number_there u us e 0 (omega arith) in
+      let x₁ = number_there u us e 4 (omega arith) in
+      let x₂ = number_there u us e 8 (omega arith) in
+      let x₃ = number_there u us e 12 (omega arith) in
+      let x₄ = number_there u us e 16 (omega arith) in
       cc
 
-  pub asked_none : units_from 20 3 job front ≡ [] → asked_by 0 0 0 0 0 ≡ asked_of (joined_data 3 (fields_in job))
+  pub asked_none : column_of job 3 20 ≡ [] → asked_by 0 0 0 0 0 ≡ asked_of (joined_data 3 (fields_in job))
   unfolding asked_of number_at number
-  asked_none e = sym (ap asked_of (first_none job 3 20 j.some j.is j.whole e))
+  asked_none e = sym (ap asked_of (first_none job 3 20 1 j e))
+
+  abbrev by_unit : List ℕ → Asked
+  by_unit u = asked_by (number_at 0 4 u) (number_at 4 4 u) (number_at 8 4 u) (number_at 12 4 u) (number_at 16 4 u)
+
+  -- so of the first unit, or of zeros where there is none
+  pub asked_first : (r : Option (Bor (List ℕ))) (zeros x : Bor (List ℕ)) (all left : List (List ℕ)) → all ≡ column_of job 3 20 → MatchOption r (all ≡ []) (λ u. all ≡ u.now ∷ left)
+      → zeros.now ≡ replicate 20 0 → x ≡ unwrap_or r zeros
+      → asked_by (number_at 0 4 x.now) (number_at 4 4 x.now) (number_at 8 4 x.now) (number_at 12 4 x.now) (number_at 16 4 x.now) ≡ asked_of (joined_data 3 (fields_in job))
+  unfolding number_at number
+  asked_first None zeros x all left a e z is = ap (λ (l : List ℕ). by_unit l) (ap (λ (b : Bor (List ℕ)). b.now) is ∙ z) ∙ asked_none (sym a ∙ e)
+  asked_first (Some u) zeros x all left a e z is = ap (λ (l : List ℕ). by_unit l) (ap (λ (b : Bor (List ℕ)). b.now) is) ∙ asked_at u.now left (sym a ∙ e)
 
 -- 04
 
 module _ (job : List ℕ) (j : Joined job 4 8 1) where
-  pub minimum_at : {p : ℕ} {c : Cursor} → Met 8 4 job (units_from 8 4 job front) p c → number (take 8 (drop p job)) ≡ number (joined_data 4 (fields_in job))
-  minimum_at m = ap number (sym (first_at job 4 8 j.some j.is m) ∙ take_all 8 (joined_data 4 (fields_in job)) j.bytes)
+  pub minimum_at : (u : List ℕ) (us : List (List ℕ)) → column_of job 4 8 ≡ u ∷ us → number_at 0 8 u ≡ number (joined_data 4 (fields_in job))
+  unfolding number_at
+  minimum_at u us e =
+      let bytes = joined_data 4 (fields_in job) in
+      ap (λ (l : List ℕ). number (take 8 l)) (sym (first_at job 4 8 1 j u us e)) ∙ ap number (take-take 8 8 bytes (omega arith) ∙ take_all 8 bytes j.bytes)
 
-  pub minimum_none : units_from 8 4 job front ≡ [] → 0 ≡ number (joined_data 4 (fields_in job))
+  pub minimum_none : column_of job 4 8 ≡ [] → 0 ≡ number (joined_data 4 (fields_in job))
   unfolding number
-  minimum_none e = sym (ap number (first_none job 4 8 j.some j.is j.whole e))
+  minimum_none e = sym (ap number (first_none job 4 8 1 j e))
+
+  pub minimum_first : (r : Option (Bor (List ℕ))) (zeros x : Bor (List ℕ)) (all left : List (List ℕ)) → all ≡ column_of job 4 8 → MatchOption r (all ≡ []) (λ u. all ≡ u.now ∷ left)
+      → zeros.now ≡ replicate 8 0 → x ≡ unwrap_or r zeros → float_at 0 x.now ≡ of_bits binary64 (number (joined_data 4 (fields_in job)))
+  unfolding float_at number_at number
+  minimum_first None zeros x all left a e z is = ap (float_at 0) (ap (λ (b : Bor (List ℕ)). b.now) is ∙ z) ∙ ap (of_bits binary64) (minimum_none (sym a ∙ e))
+  minimum_first (Some u) zeros x all left a e z is = ap (float_at 0) (ap (λ (b : Bor (List ℕ)). b.now) is) ∙ ap (of_bits binary64) (minimum_at u.now left (sym a ∙ e))
 
 -- ---- the lists
 
--- a list as long as the limit has room for the column
-pub column_fits : (job : List ℕ) (tag n limit o k room : ℕ) → length job ≤ 65535 → Joined job tag n limit → o + k ≤ n → room ≡ limit → limit ≤ 65535 → Column job tag n o k room
-column_fits job tag n limit o k room small j within is few = record { small = small; some = j.some; within = within; fits = omega (arith, j.few); few = omega arith }
-
 module _ (job : List ℕ) (a : Accepted job) where
   -- 05
-  pub query_is : map (number_at 0 8) (column_of job 5 8) ≡ (decoded job).sweep.query
+  query_is : map (number_at 0 8) (column_of job 5 8) ≡ (decoded job).sweep.query
   unfolding decoded job_of units
   query_is = ap (map (number_at 0 8)) a.query.is ∙ sym (units_number (length (joined_data 5 (fields_in job)) / 8) (joined_data 5 (fields_in job)))
 
-  pub query_count : length (column_of job 5 8) ≡ length (decoded job).sweep.query
-  query_count = sym (length-map (column_of job 5 8) (number_at 0 8)) ∙ ap length query_is
+  module _ (col : List (List ℕ)) (is : col ≡ column_of job 5 8) where
+    pub query_count : length col ≡ length (decoded job).sweep.query
+    query_count = sym (length-map col (number_at 0 8)) ∙ ap (λ (us : List (List ℕ)). length (map (number_at 0 8) us)) is ∙ ap length query_is
+
+    pub query_filled : (before after : List ℕ) → after ≡ over (map (number_at 0 8) col) before → after ≡ over (decoded job).sweep.query before
+    query_filled before after e = e ∙ ap (λ (l : List ℕ). over l before) (ap (map (number_at 0 8)) is ∙ query_is)
 
   -- 06, by the size of its units
   module _ (u : ℕ) (size : item_unit (mode_of (fields_in job)) ≡ u) where
@@ -136,14 +118,19 @@ module _ (job : List ℕ) (a : Accepted job) where
     unfolding decoded job_of item_unit
     starts_are = ap (map (number_at 8 4)) items_are
 
-    pub items_filled : {r : ℕ} {hashes starts ends hashes' starts' ends' : List ℕ} → r ≡ length (column_of job 6 u) → hashes' ≡ over (map (number_at 0 8) (column_of job 6 u)) hashes
-        → starts' ≡ over (map (number_at 8 4) (column_of job 6 u)) starts → ends' ≡ over (decoded job).sweep.ends ends → Items (decoded job) r hashes starts ends hashes' starts' ends'
-    items_filled {hashes = hashes} {starts} n h s e = record {
-      count = n ∙ sym (length-map (column_of job 6 u) (number_at 0 8)) ∙ ap length hashes_are;
-      hashes_left = h ∙ ap (λ (l : List ℕ). over l hashes) hashes_are;
-      starts_left = s ∙ ap (λ (l : List ℕ). over l starts) starts_are;
-      ends_left = e;
-    }
+    -- what was filled of these units
+    module _ (col : List (List ℕ)) (is : col ≡ column_of job 6 u) where
+      pub items_room : {room : ℕ} → room ≡ 2048 → length col ≤ room
+      items_room e = omega (arith, ap length is, items_joined.few)
+
+      pub items_filled : {r : ℕ} {hashes starts ends hashes' starts' ends' : List ℕ} → r ≡ length col → hashes' ≡ over (map (number_at 0 8) col) hashes
+          → starts' ≡ over (map (number_at 8 4) col) starts → ends' ≡ over (decoded job).sweep.ends ends → Items (decoded job) r hashes starts ends hashes' starts' ends'
+      items_filled {hashes = hashes} {starts} n h s e = record {
+        count = n ∙ ap length is ∙ sym (length-map (column_of job 6 u) (number_at 0 8)) ∙ ap length hashes_are;
+        hashes_left = h ∙ ap (λ (l : List ℕ). over l hashes) (ap (map (number_at 0 8)) is ∙ hashes_are);
+        starts_left = s ∙ ap (λ (l : List ℕ). over l starts) (ap (map (number_at 8 4)) is ∙ starts_are);
+        ends_left = e;
+      }
 
   -- positions have no ends
   pub point_size : mode_of (fields_in job) ≡ 0 → item_unit (mode_of (fields_in job)) ≡ 12
@@ -163,26 +150,43 @@ module _ (job : List ℕ) (a : Accepted job) where
   unfolding decoded job_of item_unit
   ends_are e = ap (map (number_at 12 4)) (items_are 16 (span_size e)) ∙ sym (pick_no _ _ _ (ne_eqb (mode_of (fields_in job)) 0 e))
 
+  -- what a mode is of
+  pub point_mode : Minimizer ≡ mode_at (mode_of (fields_in job)) → mode_of (fields_in job) ≡ 0
+  unfolding mode_at pick
+  point_mode e = eqb-true (mode_of (fields_in job)) 0 (go (eqb (mode_of (fields_in job)) 0) e)
+    where
+      go : (b : Bool) → Minimizer ≡ pick b Minimizer Interval → b ≡ true
+      go true e = refl
+      go false e = absurd (let z : ◌≡◌ {A = ℕ} 0 1 = cc in omega arith)
+
+  pub span_mode : Interval ≡ mode_at (mode_of (fields_in job)) → mode_of (fields_in job) ≡ 0 → ⊥
+  unfolding mode_at pick
+  span_mode e zero = let z : Interval ≡ Minimizer = e ∙ ap mode_at zero in absurd (let w : ◌≡◌ {A = ℕ} 0 1 = cc in omega arith)
+
   -- 07
-  module _ {r : ℕ} {is us is' us' : List Float} {ib ub ib' ub' : List ℕ} where
-    pub estimates_filled : r ≡ length (column_of job 7 16) → is' ≡ over (map (float_at 0) (column_of job 7 16)) is → us' ≡ over (map (float_at 8) (column_of job 7 16)) us
-        → ib' ≡ over (map (number_at 0 8) (column_of job 7 16)) ib → ub' ≡ over (map (number_at 8 8) (column_of job 7 16)) ub → Estimates (decoded job) r is us ib ub is' us' ib' ub'
-    unfolding decoded job_of float_at
-    estimates_filled n i u b v =
-        let are = a.estimates.is in
-        record {
-          count = n ∙ sym (length-map (column_of job 7 16) (number_at 0 8)) ∙ ap (λ (l : List (List ℕ)). length (map (number_at 0 8) l)) are;
-          identities_left = i ∙ ap (λ (l : List (List ℕ)). over (map (float_at 0) l) is) are;
-          uppers_left = u ∙ ap (λ (l : List (List ℕ)). over (map (float_at 8) l) us) are;
-          identity_bits_left = b ∙ ap (λ (l : List (List ℕ)). over (map (number_at 0 8) l) ib) are;
-          upper_bits_left = v ∙ ap (λ (l : List (List ℕ)). over (map (number_at 8 8) l) ub) are;
-        }
+  module _ (col : List (List ℕ)) (col_is : col ≡ column_of job 7 16) where
+    pub estimates_room : {room : ℕ} → room ≡ 513 → length col ≤ room
+    estimates_room e = omega (arith, ap length col_is, a.estimates.few)
+
+    module _ {r : ℕ} {is us is' us' : List Float} {ib ub ib' ub' : List ℕ} where
+      pub estimates_filled : r ≡ length col → is' ≡ over (map (float_at 0) col) is → us' ≡ over (map (float_at 8) col) us
+          → ib' ≡ over (map (number_at 0 8) col) ib → ub' ≡ over (map (number_at 8 8) col) ub → Estimates (decoded job) r is us ib ub is' us' ib' ub'
+      unfolding decoded job_of float_at
+      estimates_filled n i u b v =
+          let are = col_is ∙ a.estimates.is in
+          record {
+            count = n ∙ sym (length-map col (number_at 0 8)) ∙ ap (λ (l : List (List ℕ)). length (map (number_at 0 8) l)) are;
+            identities_left = i ∙ ap (λ (l : List (List ℕ)). over (map (float_at 0) l) is) are;
+            uppers_left = u ∙ ap (λ (l : List (List ℕ)). over (map (float_at 8) l) us) are;
+            identity_bits_left = b ∙ ap (λ (l : List (List ℕ)). over (map (number_at 0 8) l) ib) are;
+            upper_bits_left = v ∙ ap (λ (l : List (List ℕ)). over (map (number_at 8 8) l) ub) are;
+          }
 
 -- ---- all of it
 
 module _ (job : List ℕ) where
-  pub told_decoded : (mode : ℕ) (asked : Asked) (minimum : Float) (query items estimates : ℕ)
-      → mode ≡ mode_of (fields_in job) → asked ≡ asked_of (joined_data 3 (fields_in job)) → minimum ≡ of_bits binary64 (number (joined_data 4 (fields_in job)))
+  pub told_decoded : (mode : Mode) (asked : Asked) (minimum : Float) (query items estimates : ℕ)
+      → mode ≡ mode_at (mode_of (fields_in job)) → asked ≡ asked_of (joined_data 3 (fields_in job)) → minimum ≡ of_bits binary64 (number (joined_data 4 (fields_in job)))
       → query ≡ length (decoded job).sweep.query → items ≡ length (decoded job).sweep.hashes → estimates ≡ length (decoded job).identity_bits
       → ◌≡◌ {A = Decoded} (record { mode = mode; asked = asked; minimum = minimum; query = query; items = items; estimates = estimates }) (decoded_of (decoded job))
   unfolding decoded_of decoded job_of asked_of

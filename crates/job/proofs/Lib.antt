@@ -2,8 +2,8 @@
 pub mod UnitLists
 -- Numbers: bytes as numbers
 pub mod Numbers
--- Units: the units of a tag from a place of the job on
-pub mod Units
+-- Finding: the units of a tag from a place of the job on
+pub mod Finding
 -- Filling: a column, unit by unit
 pub mod Filling
 -- Accepted: what is known of a file in which nothing is wrong

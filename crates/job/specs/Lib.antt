@@ -2,3 +2,5 @@
 pub mod Units
 -- Read: what reading a job promises
 pub mod Read
+-- Room: the lists of a room
+pub mod Room

@@ -1,11 +1,11 @@
 -- What reading a job promises: what it answers, and what the lent lists hold at exit.
-use Rattle.std.specs.Prelude.{ℕ, ◌≡◌, List, Float, length}
+use Rattle.std.specs.Prelude.{ℕ, ◌≡◌, List, Float, Result, Ok, Err, length}
 use Rattle.base.specs.Buffers.{over}
 use Rattle.rules.specs.Limits.{size32}
 use Rattle.rules.specs.Job.{Job, job_of, number_at, Reading, refused_at, whole, read}
 use Rattle.job.specs.Units.{fields_in}
-use Rattle.job.specs.declared.Answer.{Answer}
-use Rattle.job.specs.declared.Answer.TheVariants.{Refused}
+use Rattle.base.specs.declared.Refusal.{Refusal}
+use Rattle.job_fields.specs.Mode.{mode_at}
 use Rattle.job.specs.declared.fill.Asked.{Asked}
 use Rattle.job.specs.declared.fill.Decoded.{Decoded}
 
@@ -26,7 +26,7 @@ decoded job = job_of (fields_in job)
 unfoldable pub decoded_of : Job → Decoded
 decoded_of j =
     record {
-      mode = j.mode;
+      mode = mode_at j.mode;
       asked = record { settings = j.sweep.settings; window = j.sweep.window; range = j.sweep.range };
       minimum = j.sweep.minimum;
       query = length j.sweep.query;
@@ -80,16 +80,16 @@ pub record Estimates (j : Job) (r : ℕ) (identities uppers : List Float) (ident
   pub upper_bits_left : upper_bits' ≡ over j.upper_bits upper_bits
 
 -- The answer of a reading: the refusal with its offset, or what the job tells
-unfoldable pub answer_of : Reading → Answer
-answer_of (refused_at number place) = Refused (record { number = number; place = place })
-answer_of (whole seen) = Answer.Read (decoded_of (job_of seen))
+unfoldable pub answer_of : Reading → Result Decoded Refusal
+answer_of (refused_at why place) = Err (record { reason = why; place = place })
+answer_of (whole seen) = Ok (decoded_of (job_of seen))
 
 -- and the lists at exit: refused, as they were; else the job's over their fronts
 unfoldable pub lists_left : Reading → Lists → Lists
-lists_left (refused_at number place) l = l
+lists_left (refused_at why place) l = l
 lists_left (whole seen) l = filled (job_of seen) l
 
 -- `read`: answer and lists are those of the rules' reading of these bytes
-pub record ReadPromise (job : List ℕ) (r : Answer) (before after : Lists) : Type 0 where
+pub record ReadPromise (job : List ℕ) (r : Result Decoded Refusal) (before after : Lists) : Type 0 where
   pub answer : r ≡ answer_of (read job)
   pub left : after ≡ lists_left (read job) before

@@ -1,13 +1,12 @@
 -- The units of a tag's fields, as the second pass meets them: field by field, in place.
-use Rattle.std.specs.Prelude.{ℕ, zero, suc, ◌+◌, ◌-◌, ◌*◌, ◌%◌, ◌<◌, ◌≤◌, ◌≡◌, List, [], ◌∷◌, ◌++◌, eqb, length, take, drop, Float}
+use Rattle.std.specs.Prelude.{ℕ, zero, suc, ◌+◌, ◌*◌, ◌%◌, ◌<◌, ◌≤◌, ◌≡◌, List, [], ◌∷◌, ◌++◌, eqb, length, drop, Float}
 use Rattle.base.specs.Pick.{pick}
 use Rattle.std.specs.Float.{binary64}
 use Rattle.std.specs.Float.Ieee.{of_bits}
 use Rattle.rules.specs.Limits.{job_limit, job_query_limit, job_item_limit, job_estimate_limit, settings_tag, minimum_tag, query_tag, items_tag, estimates_tag, minimizer_mode, header_size, size64, settings_size, item_size, interval_size, estimate_size}
 use Rattle.rules.specs.Job.{Field, joined_data, mode_of, field_at, length_at, is_cut, units, number_at}
-use Rattle.job.specs.declared.fill.Cursor.{Cursor}
-use Rattle.job.specs.declared.fill.Piece.{Piece}
-use Rattle.job.specs.declared.fill.Piece.TheVariants.{At, NoMore}
+use Rattle.job_fields.specs.Reader.{left_of}
+use Rattle.job.specs.declared.units.Units.{Units}
 
 -- the fields from the front of the bytes, to the first that is cut; a field takes three bytes or more, so fuel for each byte never runs out
 unfoldable pub fields_of : ℕ → List ℕ → List Field
@@ -22,25 +21,9 @@ unfoldable pub units_in : ℕ → ℕ → List Field → List (List ℕ)
 units_in n tag [] = []
 units_in n tag (f ∷ fs) = pick (eqb f.tag tag) (units n f.bytes) [] ++ units_in n tag fs
 
--- those from a cursor on: in the data of its field, then in the fields behind it
-unfoldable pub units_from : ℕ → ℕ → List ℕ → Cursor → List (List ℕ)
-units_from n tag job c = units n (take (c.end - c.at) (drop c.at job)) ++ units_in n tag (fields_in (drop c.end job))
-
--- a cursor stands in the job
-pub record Stands (job : List ℕ) (c : Cursor) : Type 0 where
-  pub order : c.at ≤ c.end
-  pub inside : c.end ≤ length job
-
--- a unit stands at p, and the cursor behind it has those that follow
-pub record Met (n tag : ℕ) (job : List ℕ) (units : List (List ℕ)) (p : ℕ) (c : Cursor) : Type 0 where
-  pub whole : p + n ≤ length job
-  pub stands : Stands job c
-  pub is : units ≡ take n (drop p job) ∷ units_from n tag job c
-
--- what looking for a unit finds, where these are left
-abbrev pub Got : ℕ → ℕ → List ℕ → List (List ℕ) → Piece → Type 0
-Got n tag job units (At p c) = Met n tag job units p c
-Got n tag job units NoMore = units ≡ []
+-- what is left of them: those in the data of the field that was met last, then those of the fields behind it
+unfoldable pub rest_of : Units → List (List ℕ)
+rest_of u = units u.size u.left.now ++ units_in u.size u.tag (fields_in (left_of u.reader))
 
 -- all units of a tag
 unfoldable pub column_of : List ℕ → ℕ → ℕ → List (List ℕ)
@@ -49,14 +32,6 @@ column_of job tag n = units_in n tag (fields_in job)
 -- the float at an offset in a unit
 unfoldable pub float_at : ℕ → List ℕ → Float
 float_at o u = of_bits binary64 (number_at o size64 u)
-
--- a column of k bytes at an offset in each unit of n, for a list of this length
-pub record Column (job : List ℕ) (tag n offset k room : ℕ) : Type 0 where
-  pub small : length job ≤ job_limit
-  pub some : 0 < n
-  pub within : offset + k ≤ n
-  pub fits : length (column_of job tag n) ≤ room
-  pub few : room ≤ job_limit
 
 -- P holds of each field
 abbrev pub Each : (Field → Type 0) → List Field → Type 0

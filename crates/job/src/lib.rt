@@ -2,22 +2,22 @@
 // it is lent. So a refusal leaves every list as it was.
 #![tactic(auto)]
 
+mod entry;
 pub mod fill;
+pub mod fronts;
+mod room;
+mod units;
 
 ghost use Rattle.job.specs.Read.{lists_of, ReadPromise};
 
-use base::{Refusal, Verdict};
+use base::Refusal;
 use fill::Decoded;
-
-// The answer of a reading: refused, with the byte offset, or what the job tells.
-#[derive(Clone, Copy)]
-pub enum Answer {
-    Refused(Refusal),
-    Read(Decoded),
-}
+use job_fields::judge::judge;
+use room::Room;
 
 // The lists hold the most that a program takes: 512 query hashes, 2,048 items (hash; position or start; end in interval mode alone), 513 estimates (identity and upper
 // bound, as numbers, where every pattern of a NaN is the one NaN, and the bits as they stood). Entries past the job's are untouched.
+// The lists are parameters one by one: callers hold them apart, and the calls for C hand them on so.
 pub fn read(
     job: &[u8],
     query: &mut [u64; 512],
@@ -28,15 +28,11 @@ pub fn read(
     uppers: &mut [f64; 513],
     identity_bits: &mut [u64; 513],
     upper_bits: &mut [u64; 513],
-) -> Answer
+) -> Result<Decoded, Refusal>
     ensures { ReadPromise job.now result (lists_of query.old hashes.old starts.old ends.old identities.old uppers.old identity_bits.old upper_bits.old) (lists_of query.new hashes.new starts.new ends.new identities.new uppers.new identity_bits.new upper_bits.new) }
 {
-    let verdict = job_fields::judge::judge(job);
-    if let Verdict::No(refusal) = verdict {
-        return Answer::Refused(refusal);
-    }
-    let decoded = fill::fill(
-        job,
+    let mode = judge(job)?;
+    let mut room = Room {
         query,
         hashes,
         starts,
@@ -45,6 +41,6 @@ pub fn read(
         uppers,
         identity_bits,
         upper_bits,
-    );
-    Answer::Read(decoded)
+    };
+    Ok(room.fill(job, mode))
 }

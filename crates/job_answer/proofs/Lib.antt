@@ -2,5 +2,3 @@
 pub mod Window
 -- Roomy: the program's work lists are never too short
 pub mod Roomy
--- Parts: the parts that the code cuts off
-pub mod Parts

@@ -8,10 +8,10 @@ use borrow.Author.Tests.{le-ltb}
 use lib.Dec.{ltb}
 use lib.ListN.{length, replicate, length-replicate}
 use Rattle.base.specs.Pick.{pick}
-use Rattle.base.specs.Verdicts.{or_else, refuse}
-use Rattle.base.specs.declared.Verdict.{Verdict}
-use Rattle.base.specs.declared.Verdict.TheVariants.{Fine, No}
-use Rattle.base.specs.declared.SweepAnswer.{SweepAnswer}
+use Rattle.std.specs.Prelude.{Ok, Err}
+use Rattle.base.specs.Verdicts.{Verdict, Fine, or_else, refuse}
+use Rattle.base.specs.declared.Reason.TheVariants.{ShortBuffer}
+use Rattle.base.specs.Answers.{SweepAnswer}
 use Rattle.rules.specs.Limits.{job_query_limit, job_item_limit}
 use Rattle.rules.specs.Checks.{ceil64, sweep_needs, keys_need}
 use Rattle.rules.specs.Sweep.{Sweep}
@@ -22,14 +22,14 @@ use Rattle.rules.proofs.Told.{told_sweep_lem}
 use Rattle.job_answer.specs.Mapped.{minimizer_done, interval_done}
 
 -- a test that a list is too short, of one that is not
-long : (a b : ℕ) (w : Verdict) → b ≤ a → w ≡ Fine → pick (ltb a b) (refuse 8 0) w ≡ Fine
+long : (a b : ℕ) (w : Verdict) → b ≤ a → w ≡ Fine → pick (ltb a b) (refuse ShortBuffer 0) w ≡ Fine
 unfolding pick
 long a b w h e = rw (le-ltb a b h) e
 
 or_none : (v w : Verdict) → w ≡ Fine → or_else v w ≡ v
 unfolding or_else
-or_none Fine w e = e
-or_none (No r) w e = refl
+or_none (Ok u) w e = e
+or_none (Err r) w e = refl
 
 -- what the work lists have
 pub record Roomy (b : SweepLent) : Type 0 where

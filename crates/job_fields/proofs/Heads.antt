@@ -1,19 +1,19 @@
--- The header at an offset of the job is the header at the front of what is left there. Assumes nothing.
+-- The field at the front of the bytes: cut, by numbers, or whole. Assumes nothing.
 use Prim.Native.Nat.{ℕ, ◌+◌, ◌-◌, ◌*◌, ◌<◌, ◌≤◌}
-use mathlib.Core.Path.{◌≡◌, refl, sym, ap, ◌∙◌}
+use mathlib.Core.Path.{◌≡◌, refl, sym, ap, ◌∙◌, subst}
 use mathlib.Core.Bool.{Bool, true, false, ◌||◌}
 use mathlib.Core.List.{List}
-use native.Mathlib.Nat.{add-zero}
 use native.Mathlib.Omega.{arith}
 use borrow.Author.Tests.{lt-ltb, le-ltb, ltb-false}
 use lib.Dec.{ltb}
 use lib.ListN.{length, get_or, take, drop, length-drop}
-use lib.Seq.{get_or-drop, get_or-take}
+use lib.Seq.{length-take-le}
 use Rattle.base.specs.Pick.{pick}
-use Rattle.rules.specs.Job.{length_at, is_cut}
-use Rattle.job_fields.specs.Judge.{header_of}
-use Rattle.job_fields.specs.declared.judge.Head.{Head}
-use Rattle.job_fields.specs.declared.judge.Head.TheVariants.{Cut}
+use Rattle.rules.specs.Job.{Field, length_at, field_at, is_cut}
+use Rattle.std.specs.Prelude.{Option, Some, None}
+use Rattle.std.specs.List.{slice_range}
+use Rattle.std.proofs.lemmas.List.{take_all}
+use Rattle.job_fields.specs.Reader.{next_field, taken_of}
 use Rattle.job_fields.proofs.Picks.{pick_yes, pick_no}
 
 -- two tests of which neither holds
@@ -40,54 +40,73 @@ module _ (bytes : List ℕ) where
   unfolding is_cut
   whole_field e = ltb-false (length bytes) (3 + length_at bytes) (neither (ltb (length bytes) 3) (ltb (length bytes) (3 + length_at bytes)) e).1
 
--- at an offset
+-- the field at the front, as the reader finds it: `rest` is what the code takes for the bytes
 
-pub first_drop : (at : ℕ) (job : List ℕ) → get_or (drop at job) 0 0 ≡ get_or job at 0
-first_drop at job = get_or-drop at job 0 0 ∙ ap (λ (k : ℕ). get_or job k 0) (add-zero at)
+pub rest_is : (o : ℕ) (job : List ℕ) → take (length job - o) (drop o job) ≡ drop o job
+rest_is o job = take_all (length job - o) (drop o job) (omega (arith, length-drop o job))
 
-pub length_there : (at : ℕ) (job : List ℕ) → length_at (drop at job) ≡ get_or job (at + 1) 0 + 256 * get_or job (at + 2) 0
-unfolding length_at
-length_there at job = let a = get_or-drop at job 1 0 in let b = get_or-drop at job 2 0 in omega arith
+pub record NoField (bytes : List ℕ) : Type 0 where
+  pub field : None ≡ next_field bytes
+  pub taken : 0 ≡ taken_of bytes
 
-module _ (job : List ℕ) (at n : ℕ) (is : n ≡ get_or job (at + 1) 0 + 256 * get_or job (at + 2) 0) where
-  pub header_short : length job - at < 3 → Cut ≡ header_of (drop at job)
-  unfolding header_of
-  header_short h = sym (pick_yes _ _ _ (cut_header (drop at job) (omega (arith, length-drop at job))))
+pub record AField (bytes : List ℕ) (f : Field) (n : ℕ) : Type 0 where
+  pub field : Some f ≡ next_field bytes
+  pub taken : n ≡ taken_of bytes
 
-  pub header_cut : 3 ≤ length job - at → length job - at < 3 + n → Cut ≡ header_of (drop at job)
-  unfolding header_of
-  header_cut h l = sym (pick_yes _ _ _ (cut_data (drop at job) (omega (arith, length-drop at job)) (omega (arith, length-drop at job, length_there at job))))
+abbrev found : ℕ → List ℕ → Option Field
+found tag bytes = Some (record { tag = tag; bytes = bytes })
 
-  pub header_field : 3 + n ≤ length job - at → Head.Field (get_or job at 0) n ≡ header_of (drop at job)
-  unfolding header_of
-  header_field h =
-      ap (λ (t : ℕ). Head.Field t n) (sym (first_drop at job)) ∙
-      ap (λ (k : ℕ). Head.Field (get_or (drop at job) 0 0) k) (is ∙ sym (length_there at job)) ∙
-      sym (pick_no _ _ _ (not_cut (drop at job) (omega (arith, length-drop at job, length_there at job))))
+no_field : (bytes : List ℕ) → is_cut bytes ≡ true → NoField bytes
+unfolding next_field taken_of
+no_field bytes e = record { field = sym (pick_yes _ _ _ e); taken = sym (pick_yes _ _ _ e) }
 
--- the first byte of some
+module _ (bytes rest : List ℕ) (is : rest ≡ bytes) where
+  pub field_short : length rest < 3 → NoField bytes
+  field_short h = no_field bytes (cut_header bytes (subst (λ (r : List ℕ). length r < 3) is h))
 
-pub first_none : (n from : ℕ) (job : List ℕ) → n ≡ 0 → 0 ≡ get_or (take n (drop from job)) 0 0
-first_none n from job e = rw e
+  module _ (n : ℕ) (read : n ≡ get_or rest 1 0 + get_or rest 2 0 * 256) where
+    length_is : n ≡ length_at bytes
+    unfolding length_at
+    length_is = subst (λ (r : List ℕ). n ≡ get_or r 1 0 + 256 * get_or r 2 0) is (omega arith)
 
-pub first_some : (n from : ℕ) (job : List ℕ) → 0 < n → get_or job from 0 ≡ get_or (take n (drop from job)) 0 0
-first_some n from job h = sym (get_or-take n (drop from job) 0 0 h ∙ first_drop from job)
+    pub field_cut : 3 ≤ length rest → length rest < 3 + n → NoField bytes
+    field_cut h l = no_field bytes (cut_data bytes (omega (arith, ap length is)) (omega (arith, ap length is, length_is)))
 
--- what a header tells
+    pub field_whole : (d : List ℕ) → 3 + n ≤ length rest → d ≡ slice_range rest 3 (3 + n) → AField bytes (record { tag = get_or rest 0 0; bytes = d }) (3 + n)
+    unfolding next_field taken_of field_at
+    field_whole d l e =
+        let whole = not_cut bytes (omega (arith, ap length is, length_is)) in
+        let size : 3 + n - 3 ≡ length_at bytes = omega (arith, length_is) in
+        let same : d ≡ take (length_at bytes) (drop 3 bytes) = e ∙ ap (λ (k : ℕ). take k (drop 3 rest)) size ∙ ap (λ (r : List ℕ). take (length_at bytes) (drop 3 r)) is in
+        record {
+          field =
+              ap (λ (t : ℕ). found t d) (ap (λ (r : List ℕ). get_or r 0 0) is) ∙ ap (found (get_or bytes 0 0)) same ∙ sym (pick_no _ _ _ whole);
+          taken = ap (λ (k : ℕ). 3 + k) length_is ∙ sym (pick_no _ _ _ whole);
+        }
+
+-- what the reader tells
 
 module _ (bytes : List ℕ) where
-  pub header_is_cut : header_of bytes ≡ Cut → is_cut bytes ≡ true
-  unfolding header_of pick
-  header_is_cut e = go (is_cut bytes) e
+  pub is_none : None ≡ next_field bytes → is_cut bytes ≡ true
+  unfolding next_field pick
+  is_none e = go (is_cut bytes) e
     where
-      go : (b : Bool) → pick b Cut (Head.Field (get_or bytes 0 0) (length_at bytes)) ≡ Cut → b ≡ true
+      go : (b : Bool) → None ≡ pick b None (Some (field_at bytes)) → b ≡ true
       go true e = refl
       go false e = absurd (let z : ◌≡◌ {A = ℕ} 0 1 = cc in omega arith)
 
-  pub header_is_field : (t n : ℕ) → header_of bytes ≡ Head.Field t n → (is_cut bytes ≡ false) × (get_or bytes 0 0 ≡ t) × (length_at bytes ≡ n)
-  unfolding header_of pick
-  header_is_field t n e = go (is_cut bytes) e
+  pub is_some : (f : Field) → Some f ≡ next_field bytes → (is_cut bytes ≡ false) × (f ≡ field_at bytes)
+  unfolding next_field pick
+  is_some f e = go (is_cut bytes) e
     where
-      go : (b : Bool) → pick b Cut (Head.Field (get_or bytes 0 0) (length_at bytes)) ≡ Head.Field t n → (b ≡ false) × (get_or bytes 0 0 ≡ t) × (length_at bytes ≡ n)
+      go : (b : Bool) → Some f ≡ pick b None (Some (field_at bytes)) → (b ≡ false) × (f ≡ field_at bytes)
       go true e = absurd (let z : ◌≡◌ {A = ℕ} 0 1 = cc in omega arith)
-      go false e = (refl, cc, cc)
+      go false e = (refl, cc)
+
+  pub size_is : is_cut bytes ≡ false → length (field_at bytes).bytes ≡ length_at bytes
+  unfolding field_at
+  size_is e = length-take-le (length_at bytes) (drop 3 bytes) (omega (arith, whole_field bytes e, length-drop 3 bytes))
+
+  pub taken_is : is_cut bytes ≡ false → taken_of bytes ≡ 3 + length_at bytes
+  unfolding taken_of
+  taken_is e = pick_no _ _ _ e

@@ -1,30 +1,33 @@
--- The step over a field, branch by branch, and what it says of the rules' reading: the reader holds of the fields before only the last tag, the mode and the bytes
--- joined under that tag, and since tags ascend that is all the next field can ask. Assumes nothing.
+-- What is seen of the fields before, only the last tag, the mode and the bytes joined under that tag, is all that the next field can ask, since tags ascend; and the
+-- rules' reading, case by case. Assumes nothing.
 use Prim.Native.Nat.{ℕ, suc, ◌+◌, ◌<◌, ◌≤◌}
 use mathlib.Core.Path.{◌≡◌, refl, sym, ap, ◌∙◌, subst}
 use mathlib.Core.Logic.{◌≢◌, ⊎_elim}
 use mathlib.Core.Bool.{Bool, true, false, ◌&&◌, not}
 use mathlib.Core.List.{List, [], ◌∷◌, ◌++◌, flatten}
 use native.Mathlib.Omega.{arith}
-use borrow.Author.Tests.{lt-ltb, eq-eqb, ne_eqb, ltb-false, eqb-true}
-use lib.Dec.{ltb, eqb}
-use lib.ListN.{length, get_or, take, drop, length-append}
-use lib.Seq.{drop-drop}
+use borrow.Author.Tests.{eq-eqb, ne_eqb, ltb-false, eqb-true, eqb-false}
+use lib.Dec.{eqb}
+use lib.ListN.{length, get_or, drop, length-append}
+use Rattle.std.specs.Prelude.{Option, Some, None}
 use Rattle.base.specs.Pick.{pick}
-use Rattle.base.proofs.Order.{eq_or_ne}
+use Rattle.base.specs.declared.Reason.{Reason}
+use Rattle.base.specs.declared.Reason.TheVariants.{JobCut}
+use Rattle.std.proofs.lemmas.Bool.{cases_eq}
 use Rattle.rules.specs.Lists.{filter}
 use Rattle.rules.specs.Script.{last_or}
-use Rattle.rules.specs.Job.{FieldRow, single, field_table, Field, joined_data, mode_of, tag_before, misplaced, fault_by, fault_of, field_at, length_at, is_cut, refused_at, after_end, read_from}
+use Rattle.rules.specs.Job.{FieldRow, single, field_table, Field, joined_data, mode_of, tag_before, misplaced, wrong_value, fault_by, fault_of, field_at, length_at, is_cut, refused_at, after_end, read_from}
+use Rattle.job_fields.specs.Mode.{byte_of, mode_at}
 use Rattle.job_fields.specs.Table.{rows_with}
-use Rattle.job_fields.specs.Judge.{earlier_of, seen_after, fault_in, over_of, step_of}
+use Rattle.job_fields.specs.Judge.{first_of, earlier_of, mode_then, seen_with, fault_in}
+use Rattle.job_fields.specs.declared.mode.Mode.TheVariants.{Minimizer}
 use Rattle.job_fields.specs.declared.judge.Seen.{Seen}
-use Rattle.job_fields.specs.declared.judge.Step.TheVariants.{Fault, Next, End}
 use Rattle.job_fields.proofs.Picks.{pick_yes, pick_no}
-use Rattle.job_fields.proofs.Faults.{passed}
+use Rattle.job_fields.proofs.Faults.{Passed, passed}
 use Rattle.job_fields.proofs.Heads.{neither}
 use Rattle.job_fields.proofs.Fields.{joined_more, joined_kept, before_more}
 
--- ---- the branches of a step
+-- ---- what is seen is all that the rules ask of the fields before
 
 pub earlier_le : (s : Seen) (tag : ℕ) → earlier_of s tag ≤ s.joined
 unfolding earlier_of pick
@@ -34,64 +37,13 @@ earlier_le s tag = go (eqb tag s.before)
     go true = omega arith
     go false = omega arith
 
-module _ (rows : List FieldRow) (s : Seen) (tag first n next : ℕ) where
-  pub over_number : (number e : ℕ) → e ≡ earlier_of s tag → number ≡ fault_by rows s.before s.mode e tag first n → number ≡ fault_in rows s tag first n
-  unfolding fault_in
-  over_number number e is h = h ∙ ap (λ (k : ℕ). fault_by rows s.before s.mode k tag first n) is
-
-  pub over_fault : (number : ℕ) → number ≡ fault_in rows s tag first n → 0 < number → Fault number ≡ over_of rows s tag first n next
-  unfolding over_of
-  over_fault number e h = sym (pick_yes _ _ _ (ap (ltb 0) (sym e) ∙ lt-ltb 0 number h) ∙ ap Fault (sym e))
-
-  module _ (none : fault_in rows s tag first n ≡ 0) where
-    pub over_end : tag ≡ 255 → End next ≡ over_of rows s tag first n next
-    unfolding over_of
-    over_end e = sym (pick_no _ _ _ (ap (ltb 0) none) ∙ pick_yes _ _ _ (eq-eqb tag 255 e))
-
-    pub over_next : tag ≢ 255 → Next (seen_after s tag first (earlier_of s tag + n)) next ≡ over_of rows s tag first n next
-    unfolding over_of
-    over_next e = sym (pick_no _ _ _ (ap (ltb 0) none) ∙ pick_no _ _ _ (ne_eqb tag 255 e))
-
--- the first row with the tag decides
-pub over_first : (rows : List FieldRow) (s : Seen) (tag first n next : ℕ) → over_of (take 1 rows) s tag first n next ≡ over_of rows s tag first n next
-unfolding over_of fault_in fault_by
-over_first [] s tag first n next = refl
-over_first (r ∷ rows) s tag first n next = refl
-
-pub over_unknown : (s : Seen) (tag first n next : ℕ) → Fault 13 ≡ over_of [] s tag first n next
-unfolding over_of fault_in fault_by pick
-over_unknown s tag first n next = refl
-
--- ---- the field at an offset
-
-module _ (s : Seen) (job : List ℕ) (at : ℕ) where
-  pub step_cut : is_cut (drop at job) ≡ true → Fault 12 ≡ step_of s at (drop at job)
-  unfolding step_of
-  step_cut e = sym (pick_yes _ _ _ e)
-
-  -- a whole field, by the row that was found
-  pub step_over : (tag n first next : ℕ) (rows : List FieldRow) → is_cut (drop at job) ≡ false → get_or (drop at job) 0 0 ≡ tag → length_at (drop at job) ≡ n
-      → first ≡ get_or (take n (drop (at + 3) job)) 0 0 → next ≡ at + (3 + n) → rows ≡ take 1 (rows_with tag) → over_of rows s tag first n next ≡ step_of s at (drop at job)
-  unfolding step_of field_at
-  step_over tag n first next rows e t l f x r =
-      let bytes = drop at job in
-      let there : drop 3 bytes ≡ drop (at + 3) job = drop-drop 3 at job in
-      let read : first ≡ get_or (take (length_at bytes) (drop 3 bytes)) 0 0 = f ∙ ap (λ (d : List ℕ). get_or (take n d) 0 0) (sym there) ∙ ap (λ (k : ℕ). get_or (take k (drop 3 bytes)) 0 0) (sym l) in
-      let end : next ≡ at + (3 + length_at bytes) = omega arith in
-      ap (λ (rs : List FieldRow). over_of rs s tag first n next) r ∙ over_first (rows_with tag) s tag first n next ∙
-      ap (λ (k : ℕ). over_of (rows_with k) s k first n next) (sym t) ∙ ap (λ (k : ℕ). over_of (rows_with (get_or bytes 0 0)) s (get_or bytes 0 0) k n next) read ∙
-      ap (λ (k : ℕ). over_of (rows_with (get_or bytes 0 0)) s (get_or bytes 0 0) (get_or (take (length_at bytes) (drop 3 bytes)) 0 0) k next) (sym l) ∙
-      ap (λ (k : ℕ). over_of (rows_with (get_or bytes 0 0)) s (get_or bytes 0 0) (get_or (take (length_at bytes) (drop 3 bytes)) 0 0) (length_at bytes) k) end ∙ sym (pick_no _ _ _ e)
-
--- ---- what the reader holds is all that the rules ask of the fields before
-
 pub record Holds (fields : List Field) (s : Seen) : Type 0 where
   pub last : tag_before fields ≡ s.before
-  pub chosen : mode_of fields ≡ s.mode
+  pub chosen : mode_of fields ≡ byte_of s.mode
   pub many : length (joined_data s.before fields) ≡ s.joined
   pub above : (t : ℕ) → s.before < t → joined_data t fields ≡ []
 
-pub holds_none : Holds [] (record { before = 0; mode = 0; joined = 0 })
+pub holds_none : Holds [] (record { before = 0; mode = Minimizer; joined = 0 })
 unfolding tag_before mode_of joined_data last_or filter flatten
 holds_none = record { last = refl; chosen = refl; many = refl; above = λ t h. refl }
 
@@ -127,39 +79,57 @@ module _ {fields : List Field} {s : Seen} (h : Holds fields s) where
   earlier_is tag l =
       ⊎_elim (λ (e : tag ≡ s.before). pick_yes _ _ _ (eq-eqb tag s.before e) ∙ sym h.many ∙ ap (λ (t : ℕ). length (joined_data t fields)) (sym e))
       (λ (e : tag ≢ s.before). pick_no _ _ _ (ne_eqb tag s.before e) ∙ sym (ap length (h.above tag (omega arith))))
-      (eq_or_ne tag s.before)
+      (cases_eq tag s.before)
 
   -- so the fault is the rules'
-  fault_by_lem : (rows : List FieldRow) (tag first n : ℕ) → ((r : FieldRow) (rs : List FieldRow) → rows ≡ r ∷ rs → r.tag ≡ tag)
-      → fault_in rows s tag first n ≡ fault_by rows s.before s.mode (length (joined_data tag fields)) tag first n
+  fault_by_lem : (rows : List FieldRow) (f : Field) → ((r : FieldRow) (rs : List FieldRow) → rows ≡ r ∷ rs → r.tag ≡ f.tag)
+      → fault_in rows s f ≡ fault_by rows s.before (byte_of s.mode) (length (joined_data f.tag fields)) f.tag (first_of f) (length f.bytes)
   unfolding fault_in fault_by
-  fault_by_lem [] tag first n is = refl
-  fault_by_lem (r ∷ rs) tag first n is = go (misplaced s.before r) refl
+  fault_by_lem [] f is = refl
+  fault_by_lem (r ∷ rs) f is = go (misplaced s.before r) refl
     where
-      go : (b : Bool) → misplaced s.before r ≡ b → fault_by (r ∷ rs) s.before s.mode (earlier_of s tag) tag first n ≡ fault_by (r ∷ rs) s.before s.mode (length (joined_data tag fields)) tag first n
+      by : ℕ → Option Reason
+      by earlier = fault_by (r ∷ rs) s.before (byte_of s.mode) earlier f.tag (first_of f) (length f.bytes)
+
+      go : (b : Bool) → misplaced s.before r ≡ b → by (earlier_of s f.tag) ≡ by (length (joined_data f.tag fields))
       go true e = pick_yes _ _ _ e ∙ sym (pick_yes _ _ _ e)
       go false e =
-          let at : r.tag ≡ tag = is r rs refl in
-          ap (λ (k : ℕ). fault_by (r ∷ rs) s.before s.mode k tag first n) (earlier_is tag (omega (arith, (in_order s.before r e).0)))
+          let at : r.tag ≡ f.tag = is r rs refl in
+          ap by (earlier_is f.tag (omega (arith, (in_order s.before r e).0)))
 
-  pub fault_is : (f : Field) → fault_in (rows_with f.tag) s f.tag (get_or f.bytes 0 0) (length f.bytes) ≡ fault_of fields f
+  pub fault_is : (f : Field) → fault_in (rows_with f.tag) s f ≡ fault_of fields f
   unfolding fault_of rows_with
   fault_is f =
-      fault_by_lem (rows_with f.tag) f.tag (get_or f.bytes 0 0) (length f.bytes) (row_tag f.tag) ∙
-      ap (λ (k : ℕ). fault_by (rows_with f.tag) k s.mode (length (joined_data f.tag fields)) f.tag (get_or f.bytes 0 0) (length f.bytes)) (sym h.last) ∙
-      ap (λ (k : ℕ). fault_by (rows_with f.tag) (tag_before fields) k (length (joined_data f.tag fields)) f.tag (get_or f.bytes 0 0) (length f.bytes)) (sym h.chosen)
+      fault_by_lem (rows_with f.tag) f (row_tag f.tag) ∙
+      ap (λ (k : ℕ). fault_by (rows_with f.tag) k (byte_of s.mode) (length (joined_data f.tag fields)) f.tag (first_of f) (length f.bytes)) (sym h.last) ∙
+      ap (λ (k : ℕ). fault_by (rows_with f.tag) (tag_before fields) k (length (joined_data f.tag fields)) f.tag (first_of f) (length f.bytes)) (sym h.chosen)
 
 -- the row of 02 does not repeat
 mode_row : (r : FieldRow) (rs : List FieldRow) → rows_with 2 ≡ r ∷ rs → r.repeats ≡ false
 unfolding rows_with filter field_table pick
 mode_row r rs e = let q : r ≡ single 2 1 = cc in ap (λ (x : FieldRow). x.repeats) q
 
+byte_is : (n : ℕ) → n ≤ 1 → n ≡ byte_of (mode_at n)
+unfolding mode_at pick
+byte_is n h =
+    ⊎_elim (λ (e : n ≡ 0). subst (λ (k : ℕ). k ≡ byte_of (mode_at k)) (sym e) refl)
+    (λ (e : n ≢ 0). let one : n ≡ 1 = omega arith in subst (λ (k : ℕ). k ≡ byte_of (mode_at k)) (sym one) refl)
+    (cases_eq n 0)
+
 -- a field more, in which nothing is wrong
-module _ {fields : List Field} {s : Seen} (h : Holds fields s) (f : Field) (none : fault_of fields f ≡ 0) where
-  low_tag : (s.before ≤ f.tag) × (f.tag ≡ 2 → s.before < 2)
+module _ {fields : List Field} {s : Seen} (h : Holds fields s) (f : Field) (none : fault_of fields f ≡ None) where
+  row_passed : Passed (rows_with f.tag) (tag_before fields) (mode_of fields) (length (joined_data f.tag fields)) f.tag (first_of f) (length f.bytes)
   unfolding fault_of rows_with
+  row_passed = passed (rows_with f.tag) (tag_before fields) (mode_of fields) (length (joined_data f.tag fields)) f.tag (first_of f) (length f.bytes) none
+
+  -- a mode that was read is one of the two
+  mode_is : f.tag ≡ 2 → first_of f ≡ byte_of (mode_at (first_of f))
+  unfolding wrong_value
+  mode_is e = byte_is (first_of f) (ltb-false 1 (first_of f) (rw e at row_passed.right))
+
+  low_tag : (s.before ≤ f.tag) × (f.tag ≡ 2 → s.before < 2)
   low_tag =
-      let p = passed (rows_with f.tag) (tag_before fields) (mode_of fields) (length (joined_data f.tag fields)) f.tag (get_or f.bytes 0 0) (length f.bytes) none in
+      let p = row_passed in
       let is : p.row.tag ≡ f.tag = row_tag f.tag p.row p.others p.found in
       let o = in_order (tag_before fields) p.row p.placed in
       (omega (arith, o.0, is, h.last), λ e. omega (arith, o.0, is, h.last, o.1 (mode_row p.row p.others (ap rows_with (sym e) ∙ p.found))))
@@ -174,45 +144,36 @@ module _ {fields : List Field} {s : Seen} (h : Holds fields s) (f : Field) (none
       let ne : f.tag ≢ t = λ e. omega arith in
       joined_kept t f fields ne ∙ h.above t (omega (arith, low_tag.0))
 
-  pub holds_more : Holds (fields ++ (f ∷ [])) (seen_after s f.tag (get_or f.bytes 0 0) (earlier_of s f.tag + length f.bytes))
-  unfolding seen_after mode_of
-  holds_more =
-      ⊎_elim
-      (λ (e : f.tag ≡ 2). subst (Holds (fields ++ (f ∷ []))) (sym (pick_yes _ _ _ (eq-eqb f.tag 2 e)))
-      (record {
-        last = before_more fields f;
-        chosen = ap (λ (l : List ℕ). get_or l 0 0) (joined_more 2 f fields e ∙ ap (λ (l : List ℕ). l ++ f.bytes) (h.above 2 (low_tag.1 e)));
-        many = many_more;
-        above = above_more;
-      }))
-      (λ (e : f.tag ≢ 2). subst (Holds (fields ++ (f ∷ []))) (sym (pick_no _ _ _ (ne_eqb f.tag 2 e)))
-      (record {
-        last = before_more fields f;
-        chosen = ap (λ (l : List ℕ). get_or l 0 0) (joined_kept 2 f fields e) ∙ h.chosen;
-        many = many_more;
-        above = above_more;
-      }))
-      (eq_or_ne f.tag 2)
+  chosen_more : (b : Bool) → eqb f.tag 2 ≡ b → mode_of (fields ++ (f ∷ [])) ≡ byte_of (pick b (mode_at (first_of f)) s.mode)
+  unfolding mode_of pick
+  chosen_more true e =
+      let two : f.tag ≡ 2 = eqb-true f.tag 2 e in
+      ap (λ (l : List ℕ). get_or l 0 0) (joined_more 2 f fields two ∙ ap (λ (l : List ℕ). l ++ f.bytes) (h.above 2 (low_tag.1 two))) ∙ mode_is two
+  chosen_more false e = ap (λ (l : List ℕ). get_or l 0 0) (joined_kept 2 f fields (eqb-false f.tag 2 e)) ∙ h.chosen
+
+  pub holds_more : Holds (fields ++ (f ∷ [])) (seen_with s f)
+  unfolding seen_with mode_then
+  holds_more = record { last = before_more fields f; chosen = chosen_more (eqb f.tag 2) refl; many = many_more; above = above_more }
 
 -- ---- the rules' reading, case by case
 
 module _ (fuel at : ℕ) (seen : List Field) (bytes : List ℕ) where
-  pub reads_cut : is_cut bytes ≡ true → read_from (suc fuel) at seen bytes ≡ refused_at 12 at
+  pub reads_cut : is_cut bytes ≡ true → read_from (suc fuel) at seen bytes ≡ refused_at JobCut at
   unfolding read_from
   reads_cut e = rw (e, read_from)
 
   module _ (cut : is_cut bytes ≡ false) where
-    pub reads_fault : ltb 0 (fault_of seen (field_at bytes)) ≡ true → read_from (suc fuel) at seen bytes ≡ refused_at (fault_of seen (field_at bytes)) at
+    pub reads_fault : (why : Reason) → fault_of seen (field_at bytes) ≡ Some why → read_from (suc fuel) at seen bytes ≡ refused_at why at
     unfolding read_from
-    reads_fault e = rw (cut, read_from) (rw e)
+    reads_fault why e = rw (cut, read_from) (rw e)
 
-    module _ (none : ltb 0 (fault_of seen (field_at bytes)) ≡ false) where
-      pub reads_end : eqb (get_or bytes 0 0) 255 ≡ true
+    module _ (none : fault_of seen (field_at bytes) ≡ None) where
+      pub reads_end : (field_at bytes).tag ≡ 255
           → read_from (suc fuel) at seen bytes ≡ after_end (at + (3 + length_at bytes)) (seen ++ (field_at bytes ∷ [])) (drop (3 + length_at bytes) bytes)
-      unfolding read_from field_at
-      reads_end e = rw (cut, read_from) (rw none (rw e))
+      unfolding read_from
+      reads_end e = rw (cut, read_from) (rw none (rw (eq-eqb (field_at bytes).tag 255 e)))
 
-      pub reads_on : eqb (get_or bytes 0 0) 255 ≡ false
+      pub reads_on : (field_at bytes).tag ≢ 255
           → read_from (suc fuel) at seen bytes ≡ read_from fuel (at + (3 + length_at bytes)) (seen ++ (field_at bytes ∷ [])) (drop (3 + length_at bytes) bytes)
-      unfolding read_from field_at
-      reads_on e = rw (cut, read_from) (rw none (rw e))
+      unfolding read_from
+      reads_on e = rw (cut, read_from) (rw none (rw (ne_eqb (field_at bytes).tag 255 e)))

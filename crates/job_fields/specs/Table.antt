@@ -1,10 +1,8 @@
 -- The crate's table in the rules' terms.
-use Rattle.std.specs.Prelude.{ℕ, Bool, false, ◌&&◌, List, [], ◌∷◌, ltb, eqb}
+use Rattle.std.specs.Prelude.{ℕ, Bool, Option, Some, None, ◌&&◌, List, [], ◌∷◌, ltb, eqb}
 use Rattle.rules.specs.Lists.{filter}
 use Rattle.rules.specs.Job.{FieldRow, field_table}
 use Rattle.job_fields.specs.declared.table.Row.{Row}
-use Rattle.job_fields.specs.declared.table.Found.{Found}
-use Rattle.job_fields.specs.declared.table.Found.TheVariants.{Known, Unknown}
 
 -- a row of the code as the rules write it
 abbrev pub rule_of : Row → FieldRow
@@ -19,18 +17,14 @@ rule_of r =
       limit = r.limit;
     }
 
--- what stands past the table's end
-abbrev pub no_rule : FieldRow
-no_rule = record { tag = 0; unit = 0; unit_of_interval = 0; one = false; repeats = false; needed = false; limit = 0 }
-
 -- the table's rows with a tag
 unfoldable pub rows_with : ℕ → List FieldRow
 rows_with tag = filter (λ (r : FieldRow). eqb r.tag tag) field_table
 
 -- the row that was found, if any
-abbrev pub rows_of : Found → List FieldRow
-rows_of (Known r) = rule_of r ∷ []
-rows_of Unknown = []
+abbrev pub rows_of : Option Row → List FieldRow
+rows_of (Some r) = rule_of r ∷ []
+rows_of None = []
 
 -- a row must stand between two tags
 abbrev pub between : ℕ → ℕ → FieldRow → Bool

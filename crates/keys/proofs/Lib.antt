@@ -5,3 +5,4 @@ pub mod Halving
 pub mod Searching
 pub mod Repeats
 pub mod Numbers
+pub mod Permuted

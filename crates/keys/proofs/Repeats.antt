@@ -16,7 +16,7 @@ use Rattle.base.specs.Pick.{pick}
 use Rattle.base.specs.Lists.{All, Asc, StrictAsc, hit, times}
 use Rattle.base.specs.Sort.{sort_of}
 use Rattle.base.proofs.Lists.{all_map, strict_asc, hit_same, hit_other, times_above}
-use Rattle.base.proofs.Order.{eq_or_ne}
+use Rattle.std.proofs.lemmas.Bool.{cases_eq}
 use Rattle.base.proofs.Sort.{asc_sort, asc_unique, times_sort}
 use Rattle.keys.specs.Lists.{after, dedup_of, Fronted}
 use Rattle.keys.proofs.Insertion.{tail_of}
@@ -97,7 +97,7 @@ module _ (a₀ a : List ℕ) (last k i : ℕ) (v : Kept a₀ a last k i) where
   kept_more l =
       ⊎_elim (λ e. rw (eq-eqb (get_or a i 0) last e) (rw (set-get_or a k 0, add-zero k) (kept_same l e)))
       (λ ne. rw (ne_eqb (get_or a i 0) last ne) (kept_other l ne))
-      (eq_or_ne (get_or a i 0) last)
+      (cases_eq (get_or a i 0) last)
 
   pub kept_end : length a₀ ≤ i → Fronted (dedup_of a₀) a₀ a k
   unfolding after
@@ -121,7 +121,7 @@ strict_after last (x ∷ xs) a s =
     let r = strict_after x xs s.0 s.1 in
     let l : last < x = omega arith in
     rw (after_other last x xs ne) ((l, all_map (λ y. x < y) (λ y. last < y) (λ y h. omega arith) (after x xs) r.0), r))
-    (eq_or_ne x last)
+    (cases_eq x last)
 
 pub strict_dedup : (xs : List ℕ) → Asc xs → StrictAsc (dedup_of xs)
 unfolding dedup_of
@@ -129,7 +129,7 @@ strict_dedup [] s = tt
 strict_dedup (x ∷ xs) s = strict_after x xs s.0 s.1
 
 hit_either : (v x : ℕ) → ((v ≡ x) × (hit v x ≡ 1)) ⊎ ((v ≢ x) × (hit v x ≡ 0))
-hit_either v x = ⊎_elim (λ (e : v ≡ x). inl (e, ap (hit v) (sym e) ∙ hit_same v)) (λ (ne : v ≢ x). inr (ne, hit_other v x ne)) (eq_or_ne v x)
+hit_either v x = ⊎_elim (λ (e : v ≡ x). inl (e, ap (hit v) (sym e) ∙ hit_same v)) (λ (ne : v ≢ x). inr (ne, hit_other v x ne)) (cases_eq v x)
 
 -- one step of the count: x equals the last, or it and all later ones are above it
 
@@ -156,7 +156,7 @@ times-after v last [] a s = ⊎_elim (λ (h : (v ≡ last) × (hit v last ≡ 1)
 times-after v last (x ∷ xs) a s =
     ⊎_elim (λ (e : x ≡ last). times_same v last x xs e (times-after v last xs a.1 s.1))
     (λ (ne : x ≢ last). times_other v last x xs (omega arith) s.0 (times-after v x xs s.0 s.1))
-    (eq_or_ne x last)
+    (cases_eq x last)
 
 pub times_dedup : (v : ℕ) (xs : List ℕ) → Asc xs → times v (dedup_of xs) ≡ min 1 (times v xs)
 unfolding dedup_of times

@@ -1,20 +1,33 @@
 -- The search of an ascending list: what stands before base is below x, and what stands from base + w on is not. A probe in the middle halves w either way,
 -- since the list ascends. One law for lists of any width of key. Assumes nothing.
-use mathlib.Core.Path.{◌≡◌, refl, sym, ◌∙◌}
+use mathlib.Core.Path.{◌≡◌, refl, sym, ap, ◌∙◌}
 use mathlib.Core.Logic.{◌⊎◌, inl, inr, ⊎_elim}
-use mathlib.Core.List.{List, [], ◌∷◌}
+use mathlib.Core.List.{List, [], ◌∷◌, map}
+use Rattle.std.specs.Prelude.{Bool, true, false, not}
+use Rattle.std.specs.Int.{from_bool}
 use Prim.Native.Nat.{ℕ, zero, suc, ◌+◌, ◌-◌, ◌*◌, ◌^◌, ◌%◌, ◌≤◌, ◌<◌, zero-le}
 use native.Mathlib.Nat.{not-suc-le-zero, le_of_suc-le-suc, pow-suc}
 use native.Mathlib.Omega.{arith}
-use lib.Count.{count_leading_zeros, leading_top}
 use lib.ListN.{length, get_or}
+use Rattle.std.proofs.lemmas.List.{length-map, get_or-map}
 use lib.Pow.{shl_exact, pow_pos}
 use borrow.Author.Tests.{lt-ltb, le-ltb}
 use Rattle.base.specs.Pick.{pick}
 use Rattle.base.specs.Lists.{Asc}
 use Rattle.base.proofs.Lists.{asc_at}
-use Rattle.base.proofs.Order.{lt_or_ge}
+use Rattle.std.proofs.lemmas.Bool.{cases_lt}
 use Rattle.keys.specs.Lists.{under, below, Within}
+
+-- a test as a number
+pub one_where : (b : Bool) → from_bool b ≡ pick b 1 0
+unfolding pick
+one_where true = refl
+one_where false = refl
+
+pub zero_where : (b : Bool) → from_bool (not b) ≡ pick b 0 1
+unfolding pick
+zero_where true = refl
+zero_where false = refl
 
 pub under_yes : (x y : ℕ) → y < x → under x y ≡ 1
 unfolding under pick
@@ -25,7 +38,7 @@ unfolding under pick
 under_no x y l = rw (le-ltb y x l)
 
 pub under_either : (x y : ℕ) → ((y < x) × (under x y ≡ 1)) ⊎ ((x ≤ y) × (under x y ≡ 0))
-under_either x y = ⊎_elim (λ l. inl (l, under_yes x y l)) (λ l. inr (l, under_no x y l)) (lt_or_ge y x)
+under_either x y = ⊎_elim (λ l. inl (l, under_yes x y l)) (λ l. inr (l, under_no x y l)) (cases_lt y x)
 
 pub under_small : (x y : ℕ) → under x y < 2
 under_small x y = ⊎_elim (λ c. omega (arith, c.1)) (λ c. omega (arith, c.1)) (under_either x y)
@@ -46,6 +59,15 @@ below_is x (y ∷ ys) (suc r) l a b =
     let t = below_is x ys r (le_of_suc-le-suc l) (λ i m. a (suc i) (omega arith)) (λ i m n. b (suc i) (omega arith) (omega arith)) in
     omega arith
 
+-- the keys as they are read: x stands at i, and w is its number
+
+module _ {A : Type 0} (f : A → ℕ) (keys : List A) (ns : List ℕ) (e : map f keys ≡ ns) where
+  pub as_many : length ns ≡ length keys
+  as_many = ap length (sym e) ∙ length-map keys f
+
+  pub number_at : (i : ℕ) (x : A) {w : ℕ} → w ≡ f x → x ≡ get_or keys i x → i < length keys → w ≡ get_or ns i 0
+  number_at i x n h l = n ∙ ap f h ∙ sym (get_or-map f keys i x 0 l) ∙ ap (λ (l : List ℕ). get_or l i 0) e
+
 -- powers of two
 
 pub double : (s : ℕ) → 0 < s → 2 ^ s ≡ 2 ^ (s - 1) + 2 ^ (s - 1)
@@ -55,13 +77,6 @@ double (suc s) p = let e : suc s - 1 ≡ s = omega arith in rw e (pow-suc 2 s �
 -- a number below two, shifted, loses no bit
 pub shifted : (b s : ℕ) → b < 2 → s < 64 → (b * 2 ^ s) % 2 ^ 64 ≡ b * 2 ^ s
 shifted b s l m = shl_exact {a = b} 1 s 64 (omega arith) (omega arith)
-
-pub within_top : (n : ℕ) → 0 < n → n < 2 ^ 64 → Within n (63 - count_leading_zeros 64 n)
-within_top n p l =
-    let t = leading_top 64 n p l in
-    let j : 63 - count_leading_zeros 64 n ≡ t.0 = omega (arith, t.1) in
-    let e : 2 ^ suc t.0 ≡ 2 ^ t.0 + 2 ^ t.0 = pow-suc 2 t.0 ∙ (omega arith) in
-    rw j (record { few = omega (arith, t.1); low = t.2; high = omega (arith, e, t.3) })
 
 -- 0 or 1 times m
 pub times_most : (b m : ℕ) → b < 2 → b * m ≤ m

@@ -1,24 +1,26 @@
 -- Bytes written behind bytes are both, one after the other; a word is written from its front, and digits from the last. Assumes nothing.
-use Prim.Native.Nat.{ℕ, zero, suc, ◌+◌, ◌/◌, ◌%◌, ◌<◌, ◌≤◌}
+use Prim.Native.Nat.{ℕ, zero, suc, ◌+◌, ◌*◌, ◌/◌, ◌%◌, ◌<◌, ◌≤◌}
 use mathlib.Core.Path.{◌≡◌, refl, sym, ap, ◌∙◌, subst}
 use mathlib.Core.Logic.{⊎_elim}
-use mathlib.Core.List.{List, [], ◌∷◌, ◌++◌, append_assoc, append-nil}
+use mathlib.Core.List.{List, [], ◌∷◌, ◌++◌, map, map-append, append_assoc, append-nil}
 use native.Mathlib.Nat.{mod-eq_of_lt, mod-lt}
 use native.Mathlib.Numerals.{add-one}
 use native.Mathlib.Omega.{arith}
 use borrow.Author.Tests.{lt-ltb, le-ltb}
-use lib.ListN.{length, get_or, set, take, drop, length-append, length-drop, take-append-drop}
-use lib.Seq.{paste, paste-zero, paste-suc, length-paste, length-take-le, take_at, drop-append-add, drop-drop, take-suc, set_at, append_snoc, take-length}
+use lib.ListN.{length, get_or, set, take, drop, length-append, length-drop, drop_of_length-le}
+use lib.Seq.{length-take-le, take_at, drop-append-add, drop-drop, take-suc, take_all, set_at, append_snoc}
 use Rattle.base.specs.Pick.{pick}
-use Rattle.base.proofs.Order.{lt_or_ge}
+use Rattle.std.proofs.lemmas.Bool.{cases_lt}
 use Rattle.base.specs.Buffers.{over}
 use Rattle.base.specs.declared.Place.{Place}
-use Rattle.base.specs.declared.Stats.{Stats}
-use Rattle.base.specs.declared.SweepAnswer.{SweepAnswer}
+use Rattle.base.specs.declared.Outcome.{Outcome}
+use Rattle.base.specs.Answers.{SweepAnswer}
+use Rattle.std.specs.Prelude.{Option, Some, None, Ok, Err}
 use Rattle.rules.specs.Text.{text}
 use Rattle.rules.specs.Job.{Job}
 use Rattle.rules.specs.Lines.{digits, decimal, hex_digit, hex, line, counts_line, mapped_line, identity_line, answer_lines}
-use Rattle.lines.specs.Written.{Written, radix, digit_count, bits_line, lines_by}
+use Rattle.lines.specs.Written.{Written, Wrote, radix, digit_count, bits_line, lines_by}
+use Rattle.lines.specs.declared.writer.Writer.{Writer}
 
 -- ---- behind each other
 
@@ -46,55 +48,14 @@ module _ {at : ℕ} {a b entry mid exit : List ℕ} {r s : ℕ} where
             append_assoc (take at entry) a (b ++ drop (at + length (a ++ b)) entry) ∙ ap (λ (l : List ℕ). take at entry ++ l) (sym (append_assoc a b (drop (at + length (a ++ b)) entry)));
       }
 
-pub written_length : {at : ℕ} {a entry exit : List ℕ} {r : ℕ} → Written at a entry r exit → length exit ≡ length entry
-written_length {at} {a} {entry} w =
-    omega (
-      arith,
-      ap length w.is ∙ length-append (take at entry) (a ++ drop (at + length a) entry),
-      length-append a (drop (at + length a) entry),
-      length-drop (at + length a) entry,
-      length-take-le at entry (omega (arith, w.within)),
-      w.within,
-    )
+-- ---- one behind another, by a writer
 
-pub written_as : {at : ℕ} {entry exit : List ℕ} {r : ℕ} (a b : List ℕ) → a ≡ b → Written at a entry r exit → Written at b entry r exit
-written_as {at} {entry} {exit} {r} a b e w = subst (λ (l : List ℕ). Written at l entry r exit) e w
+module _ {a b : List ℕ} {x y z : Writer} where
+  pub wrote_then : Wrote a x y → Wrote b y z → Wrote (a ++ b) x z
+  wrote_then v w = record { written = then v.written w.written; size = w.size ∙ v.size; same = w.same ∙ v.same }
 
--- ---- a word, from its front
-
-pub record Copying (at : ℕ) (bytes entry now : List ℕ) (i : ℕ) : Type 0 where
-  pub upto : i ≤ length bytes
-  pub room : at + length bytes ≤ length entry
-  pub is : now ≡ paste entry at bytes i
-
-module _ (at : ℕ) (bytes entry : List ℕ) where
-  pub copying_start : at + length bytes ≤ length entry → Copying at bytes entry entry 0
-  copying_start h = record { upto = omega arith; room = h; is = paste-zero entry at bytes }
-
-  module _ {now : List ℕ} {i : ℕ} (c : Copying at bytes entry now i) where
-    pub copying_length : length now ≡ length entry
-    copying_length = ap length c.is ∙ length-paste entry at bytes i (omega (arith, c.room, c.upto)) c.upto
-
-    pub copying_step : i < length bytes → Copying at bytes entry (set now (at + i) (get_or bytes i 0)) (i + 1)
-    copying_step l = record {
-      upto = omega arith;
-      room = c.room;
-      is =
-          ap (λ (x : List ℕ). set x (at + i) (get_or bytes i 0)) c.is ∙ paste-suc entry at bytes i 0 (omega (arith, c.room)) l ∙
-          ap (paste entry at bytes) (sym (add-one i));
-    }
-
-    pub copying_end : length bytes ≤ i → Written at bytes entry (at + length bytes) now
-    copying_end l =
-        let e : i ≡ length bytes = omega (arith, c.upto) in
-        record {
-          next = refl;
-          within = c.room;
-          is =
-              c.is ∙ ap (paste entry at bytes) e ∙
-              ap (λ (x : List ℕ). (take at entry ++ x) ++ drop (at + length bytes) entry) (take-length bytes) ∙
-              append_assoc (take at entry) bytes (drop (at + length bytes) entry);
-        }
+pub wrote_as : {x y : Writer} (a b : List ℕ) → a ≡ b → Wrote a x y → Wrote b x y
+wrote_as {x} {y} a b e w = subst (λ (l : List ℕ). Wrote l x y) e w
 
 -- ---- digits, from the last
 
@@ -118,32 +79,9 @@ pub record Writing (base at count n : ℕ) (entry now : List ℕ) (left m : ℕ)
   pub is : now ≡ take (at + left) entry ++ (tail ++ drop (at + count) entry)
 
 module _ (base at count n : ℕ) (entry : List ℕ) where
-  pub writing_start : at + count ≤ length entry → Writing base at count n entry entry count n
-  writing_start h = record {
-    tail = [];
-    upto = omega arith;
-    room = h;
-    whole = sym (append-nil (radix base count n));
-    is = sym (take-append-drop (at + count) entry);
-  }
-
   module _ {now : List ℕ} {left m : ℕ} (w : Writing base at count n entry now left m) where
     tail-length : length w.tail + left ≡ count
     tail-length = omega (arith, sym (length-radix base count n) ∙ ap length w.whole ∙ length-append (radix base left m) w.tail, length-radix base left m)
-
-    pub writing_length : length now ≡ length entry
-    writing_length =
-        let rest = w.tail ++ drop (at + count) entry in
-        omega (
-          arith,
-          ap length w.is ∙ length-append (take (at + left) entry) rest,
-          length-append w.tail (drop (at + count) entry),
-          length-drop (at + count) entry,
-          length-take-le (at + left) entry (omega (arith, w.upto, w.room)),
-          tail-length,
-          w.room,
-          w.upto,
-        )
 
     pub writing_step : (k d : ℕ) → left ≡ k + 1 → d ≡ hex_digit (m % base) → Writing base at count n entry (set now (at + k) d) k (m / base)
     unfolding radix
@@ -179,6 +117,13 @@ module _ (base at count n : ℕ) (entry : List ℕ) where
               ap (λ (l : List ℕ). take at entry ++ (l ++ drop (at + count) entry)) (sym all) ∙
               ap (λ (c : ℕ). take at entry ++ (radix base count n ++ drop c entry)) behind;
         }
+
+-- a whole part
+pub filled_digits : (base n : ℕ) (entry now : List ℕ) (m left : ℕ) → Writing base 0 (length entry) n entry now left m → left ≤ 0 → now ≡ radix base (length entry) n
+filled_digits base n entry now m left w h =
+    let end = writing_end base 0 (length entry) n entry w h in
+    let long = length-radix base (length entry) n in
+    end.is ∙ ap (λ (l : List ℕ). radix base (length entry) n ++ l) (drop_of_length-le entry (omega (arith, long))) ∙ append-nil (radix base (length entry) n)
 
 -- ---- the rules' digits
 
@@ -217,7 +162,7 @@ digits-radix (suc fuel) n rest =
     (λ (h : 10 ≤ n). digits_more fuel n rest h ∙ digits-radix fuel (n / 10) ((48 + n % 10) ∷ rest) ∙
     ap (λ (x : ℕ). radix 10 (digit_count fuel (n / 10)) (n / 10) ++ (x ∷ rest)) (sym (small_digit (n % 10) (mod-lt n (omega arith)))) ∙
     sym (append_snoc (radix 10 (digit_count fuel (n / 10)) (n / 10)) (hex_digit (n % 10)) rest) ∙ ap (λ (c : ℕ). radix 10 c n ++ rest) (sym (count_more fuel n h)))
-    (lt_or_ge n 10)
+    (cases_lt n 10)
 
 pub decimal-radix : (n : ℕ) → radix 10 (digit_count 20 n) n ≡ decimal n
 unfolding decimal
@@ -248,7 +193,7 @@ module _ {n m count : ℕ} (c : Counting n m count) where
   counting_end l = go c.fuel c.left c.is
     where
       last : digit_count 1 m ≡ 1
-      last = ⊎_elim (λ (h : m < 10). count_one 0 m h) (λ (h : 10 ≤ m). count_more 0 m h) (lt_or_ge m 10)
+      last = ⊎_elim (λ (h : m < 10). count_one 0 m h) (λ (h : 10 ≤ m). count_more 0 m h) (cases_lt m 10)
 
       go : (fuel : ℕ) → count + fuel ≡ 20 → digit_count 20 n + 1 ≡ count + digit_count (suc fuel) m → count ≡ digit_count 20 n
       go zero a b = omega (arith, b, last)
@@ -256,18 +201,58 @@ module _ {n m count : ℕ} (c : Counting n m count) where
 
 -- ---- lines
 
-module _ (w a b : List ℕ) where
-  pub line_two : ((w ++ (text " " ++ a)) ++ (text " " ++ b)) ++ text "\n" ≡ line w (a ∷ b ∷ [])
-  unfolding line
-  line_two = simp append_assoc
+-- words, with a space before each
+unfoldable pub spaced : List (List ℕ) → List ℕ
+spaced [] = []
+spaced (w ∷ ws) = text " " ++ (w ++ spaced ws)
 
-  pub line_three : (c : List ℕ) → (((w ++ (text " " ++ a)) ++ (text " " ++ b)) ++ (text " " ++ c)) ++ text "\n" ≡ line w (a ∷ b ∷ c ∷ [])
-  unfolding line
-  line_three c = simp append_assoc
+pub spaced_more : (ws : List (List ℕ)) (w : List ℕ) → spaced (ws ++ (w ∷ [])) ≡ spaced ws ++ (text " " ++ w)
+unfolding spaced
+spaced_more [] w = ap (λ (l : List ℕ). text " " ++ l) (append-nil w)
+spaced_more (x ∷ ws) w =
+    ap (λ (l : List ℕ). text " " ++ (x ++ l)) (spaced_more ws w) ∙
+    sym (append_assoc (text " ") (x ++ spaced ws) (text " " ++ w) ∙ ap (λ (l : List ℕ). text " " ++ l) (append_assoc x (spaced ws) (text " " ++ w)))
 
-  pub line_four : (c d : List ℕ) → ((((w ++ (text " " ++ a)) ++ (text " " ++ b)) ++ (text " " ++ c)) ++ (text " " ++ d)) ++ text "\n" ≡ line w (a ∷ b ∷ c ∷ d ∷ [])
-  unfolding line
-  line_four c d = simp append_assoc
+pub line_is : (w : List ℕ) (ws : List (List ℕ)) → (w ++ spaced ws) ++ text "\n" ≡ line w ws
+unfolding line spaced
+line_is w [] = ap (λ (l : List ℕ). l ++ text "\n") (append-nil w)
+line_is w (x ∷ ws) =
+    append_assoc w (text " " ++ (x ++ spaced ws)) (text "\n") ∙
+    ap (λ (l : List ℕ). w ++ l) (append_assoc (text " ") (x ++ spaced ws) (text "\n") ∙ ap (λ (l : List ℕ). text " " ++ l) (line_is x ws))
+
+pub line_two : (w a b : List ℕ) → ((w ++ (text " " ++ a)) ++ (text " " ++ b)) ++ text "\n" ≡ line w (a ∷ b ∷ [])
+unfolding line
+line_two w a b = simp append_assoc
+
+-- the numbers so far, and one more
+pub spaced_next : (numbers : List ℕ) (i : ℕ) → i < length numbers → spaced (map decimal (take (i + 1) numbers)) ≡ spaced (map decimal (take i numbers)) ++ (text " " ++ decimal (get_or numbers i 0))
+spaced_next numbers i h =
+    ap (λ (k : ℕ). spaced (map decimal (take k numbers))) (add-one i) ∙ ap (λ (l : List ℕ). spaced (map decimal l)) (take-suc numbers i 0 h) ∙
+    ap spaced (map-append decimal (take i numbers) (get_or numbers i 0 ∷ [])) ∙ spaced_more (map decimal (take i numbers)) (decimal (get_or numbers i 0))
+
+-- a line so far
+pub record Lining (word numbers : List ℕ) (old now : Writer) (i : ℕ) : Type 0 where
+  pub wrote : Wrote (word ++ spaced (map decimal (take i numbers))) old now
+  pub short : now.at ≤ old.at + (length word + 21 * i)
+
+module _ {word numbers : List ℕ} {old : Writer} where
+  pub lining_start : {now : Writer} → Wrote word old now → Lining word numbers old now 0
+  unfolding spaced
+  lining_start w = record { wrote = wrote_as _ _ (sym (append-nil word)) w; short = omega (arith, w.written.next) }
+
+  module _ {mid now : Writer} {i : ℕ} (l : Lining word numbers old mid i) where
+    pub lining_step : i < length numbers → Wrote (text " " ++ decimal (get_or numbers i 0)) mid now → now.at ≤ mid.at + 21 → Lining word numbers old now (i + 1)
+    lining_step h w s = record {
+      wrote =
+          wrote_as _ _
+          (append_assoc word (spaced (map decimal (take i numbers))) (text " " ++ decimal (get_or numbers i 0)) ∙ ap (λ (x : List ℕ). word ++ x) (sym (spaced_next numbers i h)))
+          (wrote_then l.wrote w);
+      short = omega (arith, l.short);
+    }
+
+    pub lining_end : length numbers ≤ i → Wrote (text "\n") mid now → Wrote (line word (map decimal numbers)) old now
+    lining_end h w =
+        wrote_as _ _ (ap (λ (x : List ℕ). (word ++ spaced (map decimal x)) ++ text "\n") (take_all i numbers h) ∙ line_is word (map decimal numbers)) (wrote_then l.wrote w)
 
 -- ---- answers
 
@@ -280,13 +265,20 @@ front_over {bytes} {entry} w =
 -- where the bits are the job's, the lines are the rules'
 pub lines_are : (j : Job) (a : SweepAnswer) → lines_by j.identity_bits j.upper_bits a ≡ answer_lines j a
 unfolding lines_by answer_lines bits_line identity_line
-lines_are j (SweepAnswer.Refused r) = refl
-lines_are j (SweepAnswer.Nothing s) = refl
-lines_are j (SweepAnswer.Placed p s) = refl
+lines_are j (Err r) = refl
+lines_are j (Ok o) = go o.place refl
+  where
+    go : (p : Option Place) → o.place ≡ p → lines_by j.identity_bits j.upper_bits (Ok o) ≡ answer_lines j (Ok o)
+    go None e = rw e
+    go (Some p) e = rw e
 
--- the lines of a place, where these are its bits
-pub placed_are : (identities uppers : List ℕ) (p : Place) (s : Stats) (i u : ℕ) → i ≡ get_or identities p.shared 0 → u ≡ get_or uppers p.shared 0
-    → mapped_line p ++ (bits_line i u ++ counts_line s) ≡ lines_by identities uppers (SweepAnswer.Placed p s)
-unfolding lines_by
-placed_are identities uppers p s i u e h =
-    ap (λ (k : ℕ). mapped_line p ++ (bits_line k u ++ counts_line s)) e ∙ ap (λ (k : ℕ). mapped_line p ++ (bits_line (get_or identities p.shared 0) k ++ counts_line s)) h
+-- the lines of an outcome
+module _ (identities uppers : List ℕ) (o : Outcome) where
+  pub none_are : o.place ≡ None → line (text "none") [] ++ counts_line o.stats ≡ lines_by identities uppers (Ok o)
+  unfolding lines_by
+  none_are e = rw e
+
+  pub placed_are : (p : Place) (i u : ℕ) → o.place ≡ Some p → i ≡ get_or identities p.shared 0 → u ≡ get_or uppers p.shared 0
+      → mapped_line p ++ (bits_line i u ++ counts_line o.stats) ≡ lines_by identities uppers (Ok o)
+  unfolding lines_by
+  placed_are p i u e a b = rw (e, a, b)

@@ -1,7 +1,9 @@
 -- Bytes written into an array at an offset, and digits by their base.
-use Rattle.std.specs.Prelude.{ℕ, zero, suc, ◌+◌, ◌/◌, ◌%◌, ◌≤◌, ◌≡◌, true, false, List, [], ◌∷◌, ◌++◌, ltb, length, get_or, take, drop}
-use Rattle.base.specs.declared.SweepAnswer.{SweepAnswer}
+use Rattle.std.specs.Prelude.{ℕ, zero, suc, Some, None, Ok, Err, ◌+◌, ◌/◌, ◌%◌, ◌≤◌, ◌≡◌, true, false, List, [], ◌∷◌, ◌++◌, ltb, length, get_or, take, drop}
+use Rattle.base.specs.Verdicts.{number_of}
+use Rattle.base.specs.Answers.{SweepAnswer}
 use Rattle.rules.specs.Text.{text}
+use Rattle.lines.specs.declared.writer.Writer.{Writer}
 use Rattle.rules.specs.Lines.{hex_digit, hex, line, counts_line, refused_line, mapped_line}
 
 -- the bytes stand at `at`, and r is behind them; the rest is kept
@@ -9,6 +11,12 @@ pub record Written (at : ℕ) (bytes entry : List ℕ) (r : ℕ) (exit : List �
   pub next : r ≡ at + length bytes
   pub within : at + length bytes ≤ length entry
   pub is : exit ≡ take at entry ++ (bytes ++ drop (at + length bytes) entry)
+
+-- what a writer wrote, into the same array
+pub record Wrote (bytes : List ℕ) (old new : Writer) : Type 0 where
+  pub written : Written old.at bytes old.out.now new.at new.out.now
+  pub size : length new.out.now ≡ length old.out.now
+  pub same : new.out.ghost_name ≡ old.out.ghost_name
 
 -- the last c digits of n
 unfoldable pub radix : ℕ → ℕ → ℕ → List ℕ
@@ -26,6 +34,8 @@ bits_line identity upper = line (text "identity") (hex 16 identity ∷ hex 16 up
 
 -- the lines of an answer, where these are the bits of the job's estimates
 unfoldable pub lines_by : List ℕ → List ℕ → SweepAnswer → List ℕ
-lines_by identities uppers (SweepAnswer.Refused r) = refused_line r.number r.place
-lines_by identities uppers (SweepAnswer.Nothing s) = line (text "none") [] ++ counts_line s
-lines_by identities uppers (SweepAnswer.Placed p s) = mapped_line p ++ (bits_line (get_or identities p.shared 0) (get_or uppers p.shared 0) ++ counts_line s)
+lines_by identities uppers (Err r) = refused_line (number_of r.reason) r.place
+lines_by identities uppers (Ok o) = elim o.place [
+  | None ↦ line (text "none") [] ++ counts_line o.stats
+  | Some p ↦ mapped_line p ++ (bits_line (get_or identities p.shared 0) (get_or uppers p.shared 0) ++ counts_line o.stats)
+]

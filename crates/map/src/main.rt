@@ -1,97 +1,50 @@
 // The mapping program: reads a job from standard input, to its end or to one byte more than a job may have, and prints what `run` says of it. Nothing else is printed.
 #![tactic(auto)]
 
-ghost use Rattle.std.specs.Prelude.{◌≤◌, length};
-
 use std::io::{Read, Write};
 
-// How many bytes were read, and whether a read failed after them: a failed read is no end of the job.
+// The bytes that were read, and whether a read failed behind them: a failed read is no end of the job. There are bytes either way, and `run` is
+// told both.
 #[derive(Clone, Copy)]
-struct Input {
-    count: usize,
+struct Input<'a> {
+    bytes: &'a [u8],
     failed: bool,
 }
 
-// One read.
-fn read_some<R: Read>(reader: &mut R, part: &mut [u8]) -> Input
-    ensures { result.count ≤ length part.old }
-{
-    match reader.read(part) {
-        Ok(count) => Input {
-            count,
-            failed: false,
-        },
-        Err(_) => Input {
-            count: 0,
-            failed: true,
-        },
-    }
-}
-
-// Reads until the input ends, a read fails, or the bytes are full. Each turn reads a byte or more or is the last, so there are never more turns than bytes.
-fn read_all<R: Read>(reader: &mut R, bytes: &mut [u8]) -> Input
-    ensures { result.count ≤ length bytes.new }
-{
-    let mut n: usize = 0;
-    for _ in 0..bytes.len() {
-        if n == bytes.len() {
-            return Input {
-                count: n,
-                failed: false,
-            };
+// Reads until the input ends, a read fails, or the room is full. Each turn reads a byte or more or is the last, so there are never more turns than bytes.
+fn read_all<'a, R: Read>(reader: &mut R, room: &'a mut [u8]) -> Input<'a> {
+    let mut count = 0;
+    let mut failed = false;
+    for _ in 0..room.len() {
+        if count == room.len() {
+            break;
         }
-        let got = read_some(reader, &mut bytes[n..]);
-        if got.failed {
-            return Input {
-                count: n,
-                failed: true,
-            };
+        match reader.read(&mut room[count..]) {
+            Ok(0) => break,
+            Ok(more) => count += more,
+            Err(_) => {
+                failed = true;
+                break;
+            }
         }
-        if got.count == 0 {
-            return Input {
-                count: n,
-                failed: false,
-            };
-        }
-        n += got.count;
     }
     Input {
-        count: n,
-        failed: false,
+        bytes: &room[..count],
+        failed,
     }
 }
 
-fn write_front<W: Write>(writer: &mut W, out: &[u8], n: usize)
-    requires { n ≤ length out.now }
-{
-    let _ = writer.write_all(&out[0..n]);
-}
-
-fn write_lines<W: Write>(writer: &mut W, out: &[u8; 256], n: usize)
-    requires { n ≤ length out.now }
-{
-    write_front(writer, out, n);
-}
-
-// Prints all that is said of the first n bytes.
-fn answer<W: Write>(writer: &mut W, bytes: &[u8], n: usize, failed: bool)
-    requires { n ≤ length bytes.now }
-{
+// Prints all that is said of them.
+fn answer<W: Write>(writer: &mut W, input: Input<'_>) {
     let mut out = [0u8; 256];
-    let count = run::run(&bytes[0..n], failed, &mut out);
-    write_lines(writer, &out, count);
-}
-
-fn answer_all<W: Write>(writer: &mut W, bytes: &[u8; 65536], input: Input)
-    requires { input.count ≤ length bytes.now }
-{
-    answer(writer, bytes, input.count, input.failed);
+    let count = run::run(input.bytes, input.failed, &mut out);
+    let _ = writer.write_all(&out[..count]);
 }
 
 fn main(rt: HostRuntime) {
-    let mut bytes = [0u8; 65536];
-    let input = read_all(&mut rt.stdin(), &mut bytes);
-    answer_all(&mut rt.stdout(), &bytes, input);
+    let mut room = [0u8; 65536];
+    let input = read_all(&mut rt.stdin(), &mut room);
+    answer(&mut rt.stdout(), input);
 }
 
 #[cfg(test)]
@@ -116,9 +69,9 @@ mod tests {
     // What is printed of what a reader gives.
     fn printed<R: Read>(rt: &HostRuntime, reader: &mut R) -> Vec<u8> {
         let mut out = Vec::new(rt.alloc());
-        let mut bytes = [0u8; 65536];
-        let input = read_all(reader, &mut bytes);
-        answer_all(&mut out, &bytes, input);
+        let mut room = [0u8; 65536];
+        let input = read_all(reader, &mut room);
+        answer(&mut out, input);
         out
     }
 

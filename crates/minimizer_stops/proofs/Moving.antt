@@ -11,7 +11,7 @@ use lib.ListN.{length, get_or, length-map}
 use borrow.Author.Tests.{ltb-true, leb-true, lt-ltb, le-ltb, eq-eqb, ne_eqb}
 use Rattle.base.specs.Pick.{pick}
 use Rattle.base.specs.Lists.{Asc}
-use Rattle.base.proofs.Order.{lt_or_ge}
+use Rattle.std.proofs.lemmas.Bool.{cases_lt}
 use Rattle.base.proofs.Lists.{asc_at}
 use Rattle.base.proofs.Checks.{pick-le}
 use Rattle.rules.specs.Minimizer.{Item, position, goes_on, to_begin, to_end, next_stop, moves}
@@ -117,10 +117,10 @@ module _ (ps : List ℕ) (w : ℕ) (t : rules.Stop) where
         let x : u.b ≡ t.b + 1 = b_is ∙ rw (eq-eqb (min near far) near (omega arith)) in
         let y : u.e ≡ t.e = e_is ∙ rw (ne_eqb (min near far) far (omega arith)) (omega arith) in
         ⊎_elim (λ (k : t.b + 1 < t.e). omega arith)
-        (λ (k : t.e ≤ t.b + 1). absurd (omega (arith, asc_at ps asc t.e (t.b + 1) k (omega arith), p_is))) (lt_or_ge (t.b + 1) t.e))
+        (λ (k : t.e ≤ t.b + 1). absurd (omega (arith, asc_at ps asc t.e (t.b + 1) k (omega arith), p_is))) (cases_lt (t.b + 1) t.e))
         (λ (h : far ≤ near).
         let y : u.e ≡ t.e + 1 = e_is ∙ rw (eq-eqb (min near far) far (omega arith)) in
-        omega (arith, b_is, pick-le (eqb (min near far) near))) (lt_or_ge near far)
+        omega (arith, b_is, pick-le (eqb (min near far) near))) (cases_lt near far)
 
 pub next_step : (ps ns : List ℕ) (w : ℕ) (t u : Stop) → stop_of u ≡ next_stop w (sites ps) (stop_of t) → t.b < t.e → t.e < length ns → Step ns t u
 next_step ps ns w t u is order inside =

@@ -13,16 +13,18 @@ use Rattle.rules.specs.Minimizer.{Item, items_of, position, part, score_items, s
 use Rattle.rules.specs.Minimizer as rules
 use Rattle.rules.proofs.MinimizerLocal.{items_positions, items_hashes, map-part}
 use Rattle.rules.proofs.MinimizerSteps.{stops_end, stops_last, stops_on, Fuelled, fuelled_next, fuelled_some}
-use Rattle.slide_mapper.specs.declared.Slide.{Slide}
+use Rattle.base.specs.declared.Slide.{Slide}
 use Rattle.slide_mapper.specs.State.{flags_of}
 use Rattle.sweep.specs.Active.{asked}
 use Rattle.sweep.proofs.Active.{active_score}
 use Rattle.minimizer_stops.specs.declared.Stop.{Stop}
-use Rattle.minimizer_stops.specs.Stops.{sites, stop_of, scored_at, scored_for, stops_of, Room, Holds, Start, Over}
+use Rattle.minimizer_stops.specs.Stops.{sites, stop_of, scored_at, scored_for, stops_of, Room, Holds, Start, Over, Kept}
 use Rattle.minimizer_stops.proofs.Moving.{site_length, goes_facts, moves_on, further, next_order}
+use Rattle.slide_mapper.specs.declared.lists.MapperLists.{MapperLists}
+use Rattle.minimizer_stops.proofs.Holding.{kept_on, kept_none}
 
 -- a stop, scored
-module _ {ns cs ws ss : List ℕ} {at : Slide} (ms : List Bool) (ps : List ℕ) (t : Stop) (h : Holds ns cs ws ss at t.b t.e) (same : length ns ≡ length ps) (flags : flags_of cs ≡ ms) where
+module _ {ns : List ℕ} {m : MapperLists} {at : Slide} (ms : List Bool) (ps : List ℕ) (t : Stop) (h : Holds ns m at t.b t.e) (same : length ns ≡ length ps) (flags : flags_of m.counts.now ≡ ms) where
   score_at : score_items (asked ms) (part (items_of ns ps) t.b t.e) ≡ at.shared
   unfolding score_items
   score_at =
@@ -38,36 +40,30 @@ module _ {ns cs ws ss : List ℕ} {at : Slide} (ms : List Bool) (ps : List ℕ) 
   stop_scored = λ d. record { score = score_at d; first = position_at d; last = position_at d }
 
 -- the loop at the stop t, with the best b of `windows` stops
-pub record Running (ps ns : List ℕ) (w last : ℕ) (cs₀ ws₀ ss₀ : List ℕ) (from : Stop) (first : Best) (cs ws ss : List ℕ) (at : Slide) (t : Stop) (b : Best) (windows : ℕ) : Type 0 where
-  pub start : Start ps ns w cs ws ss at t
-  pub flags : flags_of cs ≡ flags_of cs₀
+pub record Running (ps ns : List ℕ) (w last : ℕ) (m₀ : MapperLists) (from : Stop) (first : Best) (m : MapperLists) (at : Slide) (t : Stop) (b : Best) (windows : ℕ) : Type 0 where
+  pub start : Start ps ns w m at t
+  pub kept : Kept m₀ m
   pub fuel : ℕ
   pub fuelled : Fuelled (sites ps) fuel (stop_of t)
-  pub best : best_from b (scored_for (flags_of cs₀) ns ps (stops_from fuel w last (sites ps) (stop_of t))) ≡ best_from first (scored_for (flags_of cs₀) ns ps (stops_of w last ps (stop_of from)))
+  pub best : best_from b (scored_for (flags_of m₀.counts.now) ns ps (stops_from fuel w last (sites ps) (stop_of t))) ≡ best_from first (scored_for (flags_of m₀.counts.now) ns ps (stops_of w last ps (stop_of from)))
   pub count : windows + length (stops_from fuel w last (sites ps) (stop_of t)) ≡ length (stops_of w last ps (stop_of from))
   pub few : windows ≤ t.b + t.e
-  pub counts_len : length cs ≡ length cs₀
-  pub words_len : length ws ≡ length ws₀
-  pub summary_len : length ss ≡ length ss₀
 
-pub running_start : {ps ns : List ℕ} {w : ℕ} (last : ℕ) {cs ws ss : List ℕ} {at : Slide} {from : Stop} (first : Best) → Start ps ns w cs ws ss at from → Running ps ns w last cs ws ss from first cs ws ss at from first 0
-running_start {ps} {ns} {w} last {from = from} first s = record {
+pub running_start : {ps ns : List ℕ} {w : ℕ} (last : ℕ) {m : MapperLists} {at : Slide} {from : Stop} (first : Best) → Start ps ns w m at from → Running ps ns w last m from first m at from first 0
+running_start {ps} {ns} {w} last {m = m} {from = from} first s = record {
   start = s;
-  flags = refl;
+  kept = kept_none m;
   fuel = length ps + length ps;
   fuelled = record { enough = omega (arith, site_length ps); inside = omega (arith, site_length ps, s.order, s.holds.inside, s.parallel) };
   best = refl;
   count = omega arith;
   few = omega arith;
-  counts_len = refl;
-  words_len = refl;
-  summary_len = refl;
 }
 
-module _ {ps ns : List ℕ} {w last : ℕ} {cs₀ ws₀ ss₀ : List ℕ} {from : Stop} {first : Best} {cs ws ss : List ℕ} {at : Slide} {t : Stop} {b : Best} {windows : ℕ}
-    (r : Running ps ns w last cs₀ ws₀ ss₀ from first cs ws ss at t b windows) where
+module _ {ps ns : List ℕ} {w last : ℕ} {m₀ : MapperLists} {from : Stop} {first : Best} {m : MapperLists} {at : Slide} {t : Stop} {b : Best} {windows : ℕ}
+    (r : Running ps ns w last m₀ from first m at t b windows) where
   abbrev ms : List Bool
-  ms = flags_of cs₀
+  ms = flags_of m₀.counts.now
 
   abbrev rest : ℕ → rules.Stop → List rules.Stop
   rest fuel u = stops_from fuel w last (sites ps) u
@@ -111,33 +107,30 @@ module _ {ps ns : List ℕ} {w last : ℕ} {cs₀ ws₀ ss₀ : List ℕ} {from 
     scored_first : (ts : List rules.Stop) → rest r.fuel (stop_of t) ≡ stop_of t ∷ ts → best_from b' (scored_for ms ns ps ts) ≡ best_from first (scored_for ms ns ps (stops_of w last ps (stop_of from)))
     unfolding best_from
     scored_first ts e =
-        ap (λ (x : Scored). best_from (better b x) (scored_for ms ns ps ts)) (sym (stop_scored ms ps t r.start.holds r.start.parallel r.flags)) ∙
+        ap (λ (x : Scored). best_from (better b x) (scored_for ms ns ps ts)) (sym (stop_scored ms ps t r.start.holds r.start.parallel r.kept.query)) ∙
         sym (ap (λ (us : List rules.Stop). best_from b (scored_for ms ns ps us)) e) ∙ r.best
 
     pub running_last : (x : Best) → x ≡ b' → moves w (sites ps) (stop_of t) ≡ false → Over ms ps ns w last (stop_of from) first (record { best = x; windows = windows + 1 })
     unfolding best_from
-    running_last x d m =
-        let one = ap (λ (f : ℕ). rest f (stop_of t)) more ∙ stops_last (sites ps) w last left (stop_of t) g m in
+    running_last x d v =
+        let one = ap (λ (f : ℕ). rest f (stop_of t)) more ∙ stops_last (sites ps) w last left (stop_of t) g v in
         record { best = d ∙ scored_first [] one; windows = omega (arith, r.count, ap length one) }
 
-    pub running_next : (x : Best) → x ≡ b' → (u : Stop) → stop_of u ≡ next_stop w (sites ps) (stop_of t) → t.p.0 < u.p.0 → {cs' ws' ss' : List ℕ} {at' : Slide} → Holds ns cs' ws' ss' at' u.b u.e
-        → flags_of cs' ≡ flags_of cs → length cs' ≡ length cs → length ws' ≡ length ws → length ss' ≡ length ss → Running ps ns w last cs₀ ws₀ ss₀ from first cs' ws' ss' at' u x (windows + 1)
-    running_next x d u is on {cs'} {ws'} {ss'} {at'} h f counts words summary =
-        let m = moves_on ps w (stop_of t) (stop_of u) is on in
-        let all = ap (λ (n : ℕ). rest n (stop_of t)) more ∙ stops_on (sites ps) w last left (stop_of t) g m ∙ ap (λ (v : rules.Stop). stop_of t ∷ rest left v) (sym is) in
+    pub running_next : (x : Best) → x ≡ b' → (u : Stop) → stop_of u ≡ next_stop w (sites ps) (stop_of t) → t.p.0 < u.p.0 → {n : MapperLists} {at' : Slide} → Holds ns n at' u.b u.e
+        → Kept m n → Running ps ns w last m₀ from first n at' u x (windows + 1)
+    running_next x d u is on h k =
+        let v = moves_on ps w (stop_of t) (stop_of u) is on in
+        let all = ap (λ (n : ℕ). rest n (stop_of t)) more ∙ stops_on (sites ps) w last left (stop_of t) g v ∙ ap (λ (y : rules.Stop). stop_of t ∷ rest left y) (sym is) in
         let inside = (goes_facts ps last (stop_of t) g).0 in
         let o = next_order ps w (stop_of t) (stop_of u) is r.start.asc r.start.some r.start.order inside on in
         let fuelled : Fuelled (sites ps) left (stop_of u) =
-        subst (λ (v : rules.Stop). Fuelled (sites ps) left v) (sym is) (fuelled_next w (subst (λ (n : ℕ). Fuelled (sites ps) n (stop_of t)) more r.fuelled) m) in
+        subst (λ (y : rules.Stop). Fuelled (sites ps) left y) (sym is) (fuelled_next w (subst (λ (n : ℕ). Fuelled (sites ps) n (stop_of t)) more r.fuelled) v) in
         record {
           start = record { holds = h; parallel = r.start.parallel; asc = r.start.asc; some = r.start.some; small = r.start.small; order = o };
-          flags = f ∙ r.flags;
+          kept = kept_on r.kept k;
           fuel = left;
           fuelled = fuelled;
           best = ap (λ (y : Best). best_from y (scored_for ms ns ps (rest left (stop_of u)))) d ∙ scored_first (rest left (stop_of u)) all;
           count = omega (arith, r.count, ap length all);
           few = omega (arith, r.few, further ps w (stop_of t) (stop_of u) is);
-          counts_len = counts ∙ r.counts_len;
-          words_len = words ∙ r.words_len;
-          summary_len = summary ∙ r.summary_len;
         }

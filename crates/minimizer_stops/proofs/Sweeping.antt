@@ -22,7 +22,7 @@ use Rattle.rules.proofs.MinimizerLocal.{items_positions}
 use Rattle.rules.proofs.MinimizerSteps.{stops_end, stops_last, stops_on}
 use Rattle.keys.specs.Lists.{below as keysBelow}
 use Rattle.keys.proofs.Numbers.{below_number}
-use Rattle.slide_mapper.specs.declared.Slide.{Slide}
+use Rattle.base.specs.declared.Slide.{Slide}
 use Rattle.slide_mapper.specs.State.{flags_of}
 use Rattle.sweep.specs.Active.{asked}
 use Rattle.minimizer_stops.specs.declared.Stop.{Stop}
@@ -30,6 +30,7 @@ use Rattle.minimizer_stops.specs.declared.Swept.{Swept}
 use Rattle.minimizer_stops.specs.Stops.{sites, stop_of, scored_at, scored_for, stops_of, Holds, Over, Whole}
 use Rattle.minimizer_stops.proofs.Moving.{site_at, goes_facts}
 use Rattle.minimizer_stops.proofs.Running.{stop_scored}
+use Rattle.slide_mapper.specs.declared.lists.MapperLists.{MapperLists}
 
 -- ---- the first stop
 
@@ -88,7 +89,7 @@ whole_none ms ps ns w last t is g =
     record { best = sym (ap (λ (ts : List rules.Stop). best (scored_for ms ns ps ts)) none); windows = sym (ap length none) }
 
 -- the first one is
-module _ {ns cs ws ss : List ℕ} {at : Slide} (ms : List Bool) (ps : List ℕ) (w last : ℕ) (t : Stop) (h : Holds ns cs ws ss at t.b t.e) (parallel : length ns ≡ length ps) (flags : flags_of cs ≡ ms) where
+module _ {ns : List ℕ} {m : MapperLists} {at : Slide} (ms : List Bool) (ps : List ℕ) (w last : ℕ) (t : Stop) (h : Holds ns m at t.b t.e) (parallel : length ns ≡ length ps) (flags : flags_of m.counts.now ≡ ms) where
   pub whole_some : stop_of t ≡ first_stop w (sites ps) → goes_on last (sites ps) (stop_of t) ≡ true → t.p.0 ≡ get_or ps t.b 0
       → {r : Swept} → Over ms ps ns w last (stop_of t) (record { shared = at.shared; first = t.p; last = t.p }) r → Whole ms ps ns w last r
   unfolding base

@@ -6,7 +6,8 @@ use Rattle.rules.specs.Limits.{item_limit}
 use Rattle.rules.specs.Sweep.{Scored, best_from, best}
 use Rattle.rules.specs.Minimizer.{Item, items_of, first_stop, stops_from, scored_stop}
 use Rattle.rules.specs.Minimizer as rules
-use Rattle.slide_mapper.specs.declared.Slide.{Slide}
+use Rattle.base.specs.declared.Slide.{Slide}
+use Rattle.slide_mapper.specs.declared.lists.MapperLists.{MapperLists}
 use Rattle.slide_mapper.specs.State.{flags_of}
 use Rattle.sweep.specs.Active.{asked, Active}
 use Rattle.minimizer_stops.specs.declared.Stop.{Stop}
@@ -36,9 +37,9 @@ pub record Room (ps : List ℕ) (w : ℕ) (t : Stop) : Type 0 where
   pub small : w < 2 ^ 32
 
 -- the items from b to e are active
-pub record Holds (ns cs ws ss : List ℕ) (at : Slide) (b e : ℕ) : Type 0 where
-  pub active : Active cs ws ss at (take (e - b) (drop b ns))
-  pub numbers : All (λ i. i < length cs) ns
+pub record Holds (ns : List ℕ) (m : MapperLists) (at : Slide) (b e : ℕ) : Type 0 where
+  pub active : Active m.counts.now m.words.now m.summary.now at (take (e - b) (drop b ns))
+  pub numbers : All (λ i. i < length m.counts.now) ns
   pub few : length ns ≤ item_limit
   pub order : b ≤ e
   pub inside : e ≤ length ns
@@ -54,12 +55,12 @@ pub record Step (ns : List ℕ) (t u : Stop) : Type 0 where
   pub inside : u.e ≤ length ns
 
 -- the query is as it was
-abbrev pub Same : List ℕ → List ℕ → Type 0
-Same cs cs' = flags_of cs' ≡ flags_of cs
+pub record Kept (old new : MapperLists) : Type 0 where
+  pub query : flags_of new.counts.now ≡ flags_of old.counts.now
 
 -- what the sweep asks at its first stop
-pub record Start (ps ns : List ℕ) (w : ℕ) (cs ws ss : List ℕ) (at : Slide) (t : Stop) : Type 0 where
-  pub holds : Holds ns cs ws ss at t.b t.e
+pub record Start (ps ns : List ℕ) (w : ℕ) (m : MapperLists) (at : Slide) (t : Stop) : Type 0 where
+  pub holds : Holds ns m at t.b t.e
   pub parallel : length ns ≡ length ps
   pub asc : Asc ps
   pub some : 0 < w
@@ -76,8 +77,8 @@ pub record Over (ms : List Bool) (ps ns : List ℕ) (w range_end : ℕ) (t : rul
   pub windows : r.windows ≡ length (stops_of w range_end ps t)
 
 -- what the whole sweep asks: no item is active yet, and there is one
-pub record Begin (ps ns : List ℕ) (w : ℕ) (cs ws ss : List ℕ) (at : Slide) : Type 0 where
-  pub holds : Holds ns cs ws ss at 0 0
+pub record Begin (ps ns : List ℕ) (w : ℕ) (m : MapperLists) (at : Slide) : Type 0 where
+  pub holds : Holds ns m at 0 0
   pub parallel : length ns ≡ length ps
   pub asc : Asc ps
   pub some : 0 < w

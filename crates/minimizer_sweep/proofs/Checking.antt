@@ -3,10 +3,9 @@ use mathlib.Core.Path.{◌≡◌, refl, sym, ◌∙◌}
 use mathlib.Core.List.{List}
 use Prim.Native.Nat.{ℕ, ◌+◌, ◌≤◌}
 use lib.ListN.{length}
-use Rattle.base.specs.Verdicts.{or_else}
+use Rattle.std.specs.Prelude.{Err}
+use Rattle.base.specs.Verdicts.{Verdict, Fine, or_else}
 use Rattle.base.specs.declared.Refusal.{Refusal}
-use Rattle.base.specs.declared.Verdict.{Verdict}
-use Rattle.base.specs.declared.Verdict.TheVariants.{Fine, No}
 use Rattle.base.proofs.Verdicts.{or_stop, or_skip, lt_fine}
 use Rattle.rules.specs.Limits.{query_limit, item_limit}
 use Rattle.rules.specs.Checks.{minimizer_sizes, sweep_orders, sweep_table, sweep_needs, minimizer_input}
@@ -40,16 +39,16 @@ module _ (query hashes starts : List ℕ) (identities uppers kmer window keys co
   unfolding minimizer_input
   verdict_is = refl
 
-  pub refused_sizes : (r : Refusal) → sizes ≡ No r → No r ≡ verdict
+  pub refused_sizes : (r : Refusal) → sizes ≡ Err r → Err r ≡ verdict
   refused_sizes r e = or_stop _ needs r (sym (or_stop sizes _ r e)) ∙ sym verdict_is
 
   module _ (fine₁ : sizes ≡ Fine) where
-    pub refused_orders : (r : Refusal) → orders ≡ No r → No r ≡ verdict
-    refused_orders r e = or_stop _ needs r (sym (or_skip sizes _ (No r) fine₁ (or_stop orders table r e))) ∙ sym verdict_is
+    pub refused_orders : (r : Refusal) → orders ≡ Err r → Err r ≡ verdict
+    refused_orders r e = or_stop _ needs r (sym (or_skip sizes _ (Err r) fine₁ (or_stop orders table r e))) ∙ sym verdict_is
 
     module _ (fine₂ : orders ≡ Fine) where
-      pub refused_table : (r : Refusal) → table ≡ No r → No r ≡ verdict
-      refused_table r e = or_stop _ needs r (sym (or_skip sizes _ (No r) fine₁ (or_skip orders table (No r) fine₂ (sym e)))) ∙ sym verdict_is
+      pub refused_table : (r : Refusal) → table ≡ Err r → Err r ≡ verdict
+      refused_table r e = or_stop _ needs r (sym (or_skip sizes _ (Err r) fine₁ (or_skip orders table (Err r) fine₂ (sym e)))) ∙ sym verdict_is
 
       pub left_to_needs : (z : Verdict) → table ≡ Fine → z ≡ needs → z ≡ verdict
       left_to_needs z fine₃ e = or_skip _ needs z (sym (or_skip sizes _ Fine fine₁ (or_skip orders table Fine fine₂ (sym fine₃)))) e ∙ sym verdict_is

@@ -3,7 +3,7 @@
 use mathlib.Core.Path.{◌≡◌, ap}
 use mathlib.Core.List.{List}
 use Prim.Native.Nat.{ℕ}
-use Rattle.base.specs.declared.SweepAnswer.{SweepAnswer}
+use Rattle.base.specs.Answers.{SweepAnswer}
 use Rattle.rules.specs.Sweep.{Sweep}
 use Rattle.rules.specs.Calls.{SweepLent, MinimizerPromise}
 use Rattle.rules.proofs.Unique.{minimizer_unique}

@@ -2,13 +2,13 @@
 -- Assumes nothing.
 use mathlib.Core.Path.{◌≡◌, refl, sym, ap, ◌∙◌, subst}
 use mathlib.Core.List.{List, ◌++◌}
-use Prim.Native.Nat.{ℕ, ◌+◌}
+use Prim.Native.Nat.{ℕ, ◌+◌, ◌≤◌}
 use native.Mathlib.Omega.{arith}
 use lib.ListN.{length, drop}
 use Rattle.base.specs.declared.Refusal.{Refusal}
-use Rattle.base.specs.declared.Verdict.{Verdict}
-use Rattle.base.specs.declared.Verdict.TheVariants.{Fine, No}
-use Rattle.base.specs.declared.SweepAnswer.{SweepAnswer}
+use Rattle.std.specs.Prelude.{Err}
+use Rattle.base.specs.Verdicts.{Verdict, Fine}
+use Rattle.base.specs.Answers.{SweepAnswer}
 use Rattle.base.proofs.Verdicts.{or_fine}
 use Rattle.rules.specs.Accepted.{SweepAccepted, SweepFits}
 use Rattle.rules.specs.Checks.{ceil64}
@@ -20,8 +20,9 @@ use Rattle.rules.specs.Calls.{SweepLent, sweep_room_of, SweepLeft, MinimizerProm
 use Rattle.rules.proofs.Accepted.{minimizer_accepted, sweep_fits}
 use Rattle.rules.proofs.Minimizer.{minimizer_demand_3}
 use Rattle.sweep.specs.Beginning.{Clear}
+use Rattle.sweep.specs.declared.Lengths.{Lengths}
 use Rattle.minimizer_work.specs.Work.{Ready}
-use Rattle.minimizer_sweep.specs.Given.{lent_of, Table}
+use Rattle.minimizer_sweep.specs.Given.{lent_of, Covers}
 
 module _ (s : Sweep) (before : SweepLent) where
   abbrev verdict : Verdict
@@ -44,7 +45,7 @@ module _ (s : Sweep) (before : SweepLent) where
     pub fine_ready : Ready s.query s.hashes s.starts
     fine_ready = let a = accepted in record { few_hashes = a.few_hashes; few_items = a.few_items; parallel = a.same_starts; query_asc = a.query_ascends; starts_asc = a.starts_ascend }
 
-    pub fine_table : Table (length s.query) s.identities s.uppers
+    pub fine_table : Covers (length s.query) s.identities s.uppers
     fine_table = let a = accepted in record { identity = omega (arith, a.entries); upper = omega (arith, a.entries, a.same_table) }
 
   -- ---- the promise, by the verdict
@@ -60,9 +61,9 @@ module _ (s : Sweep) (before : SweepLent) where
         left = subst (λ (w : Verdict). SweepLeft w (need s) before after) (sym e) left;
       }
 
-  pub promise_refused : (x : Refusal) → verdict ≡ No x → MinimizerPromise s (SweepAnswer.Refused x) before before
+  pub promise_refused : (x : Refusal) → verdict ≡ Err x → MinimizerPromise s (Err x) before before
   unfolding sweep_answer_of work_left
-  promise_refused x e = promised (No x) e (SweepAnswer.Refused x) before refl (record { hashes = refl; counts = refl; coords = refl; words = refl; summary = refl })
+  promise_refused x e = promised (Err x) e (Err x) before refl (record { hashes = refl; counts = refl; coords = refl; words = refl; summary = refl })
 
   -- the needed part of each work list is clear, and the rest is untouched
   pub promise_done : verdict ≡ Fine → (r : SweepAnswer) → r ≡ minimizer_answer s → (hs cs is ws ss : List ℕ) → Clear m hs cs is ws ss
@@ -78,3 +79,27 @@ module _ (s : Sweep) (before : SweepLent) where
         words = ap (λ (x : List ℕ). x ++ drop (ceil64 m) before.words) c.words;
         summary = ap (λ (x : List ℕ). x ++ drop (ceil64 (ceil64 m)) before.summary) c.summary;
       })
+
+-- all that is known of an input whose checks said fine, of the sizes that the call needs
+pub record Passed (s : Sweep) (before : SweepLent) (n : Lengths) : Type 0 where
+  pub ready : Ready s.query s.hashes s.starts
+  pub table : Covers (length s.query) s.identities s.uppers
+  pub keys : n.keys ≤ length before.hashes
+  pub counts : n.counts ≤ length before.counts
+  pub coords : n.coords ≤ length before.coords
+  pub words : n.words ≤ length before.words
+  pub summary : n.summary ≤ length before.summary
+
+pub passed : (s : Sweep) (before : SweepLent) (n : Lengths) → n.keys ≡ m s before → n.counts ≡ m s before → n.coords ≡ m s before → n.words ≡ ceil64 (m s before) → n.summary ≡ ceil64 (ceil64 (m s before))
+    → verdict s before ≡ Fine → Passed s before n
+passed s before n k c i w t fine =
+    let f = fine_fits s before fine in
+    record {
+      ready = fine_ready s before fine;
+      table = fine_table s before fine;
+      keys = omega (arith, k, f.hashes_fit);
+      counts = omega (arith, c, f.counts_fit);
+      coords = omega (arith, i, f.coords_fit);
+      words = omega (arith, w, f.words_fit);
+      summary = omega (arith, t, f.summary_fits);
+    }

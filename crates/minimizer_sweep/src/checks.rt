@@ -1,11 +1,14 @@
-// The checks of the minimizer sweep, in the order of their numbers; the first that fails gives its number and its place.
+// The checks of the minimizer sweep, in the order of their numbers; the first that fails gives its reason and its place.
 ghost use Rattle.std.specs.Prelude.{◌≡◌};
 ghost use Rattle.rules.specs.Checks.{minimizer_sizes};
 ghost use Rattle.minimizer_sweep.specs.Given.{verdict_of};
 
-use base::Verdict;
+use base::{Reason, Refusal};
+use sweep::Lengths;
 
-// 1, 2 and 3, of the lengths of the lists.
+// 1, 2 and 3, of the lengths of the lists. The interval sweep has a list more and a setting less: one function, of a list of lengths and a
+// list of settings, would be no plainer.
+#[tactic(auto, using(std::proofs::lemmas::Bool::Decides::nat_tests), unfolding(base::specs::Pick::pick))]
 fn check_sizes(
     query: usize,
     hashes: usize,
@@ -14,31 +17,28 @@ fn check_sizes(
     uppers: usize,
     kmer: u32,
     window: u32,
-) -> Verdict
+) -> Result<(), Refusal>
     ensures { result ≡ minimizer_sizes query hashes starts identities uppers kmer window }
 {
-    if 4096 < query {
-        return sweep::refused(1, 0);
+    if 4096 < query || 61440 < hashes || 61440 < starts {
+        return Err(Refusal {
+            reason: Reason::TooLarge,
+            place: 0,
+        });
     }
-    if 61440 < hashes {
-        return sweep::refused(1, 0);
+    if kmer == 0 || window == 0 {
+        return Err(Refusal {
+            reason: Reason::BadSetting,
+            place: 0,
+        });
     }
-    if 61440 < starts {
-        return sweep::refused(1, 0);
+    if hashes != starts || identities != uppers {
+        return Err(Refusal {
+            reason: Reason::UnequalLengths,
+            place: 0,
+        });
     }
-    if kmer == 0 {
-        return sweep::refused(2, 0);
-    }
-    if window == 0 {
-        return sweep::refused(2, 0);
-    }
-    if hashes != starts {
-        return sweep::refused(3, 0);
-    }
-    if identities != uppers {
-        return sweep::refused(3, 0);
-    }
-    Verdict::Fine
+    Ok(())
 }
 
 // All of them; of the table and the work lists the lengths.
@@ -50,27 +50,14 @@ pub fn check(
     uppers: usize,
     kmer: u32,
     window: u32,
-    keys: usize,
-    counts: usize,
-    coords: usize,
-    words: usize,
-    summary: usize,
-) -> Verdict
-    ensures { result ≡ verdict_of query.now hashes.now starts.now identities uppers kmer window keys counts coords words summary }
+    lent: Lengths,
+) -> Result<(), Refusal>
+    ensures { result ≡ verdict_of query.now hashes.now starts.now identities uppers kmer window lent.keys lent.counts lent.coords lent.words lent.summary }
 {
     let k = query.len();
     let n = hashes.len();
-    let sizes = check_sizes(k, n, starts.len(), identities, uppers, kmer, window);
-    if let Verdict::No(refusal) = sizes {
-        return Verdict::No(refusal);
-    }
-    let orders = sweep::check_orders(query, starts);
-    if let Verdict::No(refusal) = orders {
-        return Verdict::No(refusal);
-    }
-    let table = sweep::check_table(k, identities);
-    if let Verdict::No(refusal) = table {
-        return Verdict::No(refusal);
-    }
-    sweep::check_needs(k + n, keys, counts, coords, words, summary)
+    check_sizes(k, n, starts.len(), identities, uppers, kmer, window)?;
+    sweep::check_orders(query, starts)?;
+    sweep::check_table(k, identities)?;
+    sweep::check_needs(k + n, lent)
 }

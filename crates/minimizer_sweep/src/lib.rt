@@ -4,115 +4,83 @@
 
 mod checks;
 
-ghost use Rattle.std.specs.Prelude.{◌≡◌, ◌+◌, eqb, length};
+ghost use Rattle.std.specs.Prelude.{◌≡◌, ◌+◌, Ok, eqb, length};
 ghost use Rattle.base.specs.Pick.{pick};
-ghost use Rattle.base.specs.declared.SweepAnswer.TheVariants.{Nothing};
-ghost use Rattle.rules.specs.Place.{settled, no_stats, minimizer_answer};
+ghost use Rattle.base.specs.Answers.{nothing};
+ghost use Rattle.rules.specs.Place.{settled, minimizer_answer};
 ghost use Rattle.rules.specs.Calls.{MinimizerPromise};
 ghost use Rattle.sweep.specs.Beginning.{Exact, Clear};
 ghost use Rattle.sweep.specs.Work.{Fits};
+ghost use Rattle.sweep.specs.Lent.{SameWork, Zero};
 ghost use Rattle.minimizer_work.specs.Given.{sweep_of};
 ghost use Rattle.minimizer_work.specs.Work.{Ready};
-ghost use Rattle.minimizer_sweep.specs.Given.{lent_of, Table};
+ghost use Rattle.minimizer_sweep.specs.Given.{lent_of, asked_by, Covers};
 
-use base::{Range, Settings, Stats, SweepAnswer, Verdict};
-use minimizer_work::Found;
-
-// None, settled before coordinates are built.
-fn early() -> SweepAnswer
-    ensures { result ≡ Nothing no_stats }
-{
-    SweepAnswer::Nothing(Stats {
-        windows: 0,
-        coords: 0,
-        items: 0,
-    })
-}
+use base::{Outcome, Range, Refusal, Settings};
+use minimizer_work::Search;
+use minimizer_work::items::Items;
+use sweep::work::Work;
+use sweep::{Found, Lengths, Table};
 
 // The place of what was found; a best score of 0 is none.
-fn settle_found(
-    length: u32,
-    size: usize,
-    identities: &[f64],
-    uppers: &[f64],
-    minimum: f64,
-    found: Found,
-) -> SweepAnswer
-    requires { Fits length size identities.now uppers.now found.best }
-    ensures { result ≡ pick (eqb found.best.shared 0) (Nothing found.stats) (settled length size identities.now uppers.now minimum found.stats found.best) }
+#[tactic(auto, using(std::proofs::lemmas::Bool::Decides::nat_tests), unfolding(base::specs::Pick::pick))]
+fn settle_found(length: u32, size: usize, table: Table<'_>, minimum: f64, found: Found) -> Outcome
+    requires { Fits length size table.identities.now table.uppers.now found.best }
+    ensures { Ok result ≡ pick (eqb found.best.shared 0) (nothing found.stats) (settled length size table.entry.identities.now table.entry.uppers.now minimum found.stats found.best) }
 {
-    let best = found.best;
-    let stats = found.stats;
-    if best.shared == 0 {
-        return SweepAnswer::Nothing(stats);
+    if found.best.shared == 0 {
+        return Outcome {
+            place: None,
+            stats: found.stats,
+        };
     }
-    sweep::settle(length, size, identities, uppers, minimum, stats, best)
+    sweep::settle(length, size, table, minimum, found)
 }
 
 // The answer for one range of a sweep that passed its checks.
-fn answer(
-    settings: Settings,
-    window: u32,
-    range: Range,
-    query: &[u64],
-    hashes: &[u64],
-    positions: &[u32],
-    identities: &[f64],
-    uppers: &[f64],
-    minimum: f64,
-    keys: &mut [u64],
-    counts: &mut [u32],
-    coords: &mut [u32],
-    words: &mut [u64],
-    summary: &mut [u64],
-) -> SweepAnswer
-    requires { Ready query.now hashes.now positions.now × Table (length query.now) identities.now uppers.now × Clear (length query.now + length hashes.now) keys.old counts.old coords.old words.old summary.old }
-    ensures { (result ≡ minimizer_answer (sweep_of settings window range query.now hashes.now positions.now identities.now uppers.now minimum)) × Clear (length query.now + length hashes.now) keys.new counts.new coords.new words.new summary.new }
+fn answer(search: Search<'_, '_>, table: Table<'_>, minimum: f64, work: &mut Work<'_>) -> Outcome
+    requires ready { Ready search.query.now search.items.hashes.now search.items.positions.now }
+    requires table { Covers (length search.query.now) table.identities.now table.uppers.now }
+    requires zero { Zero (length search.query.now + length search.items.hashes.now) work.old }
+    ensures same { SameWork work.old work.new }
+    ensures answer { Ok result ≡ minimizer_answer (asked_by search.entry table.entry minimum) }
+    ensures zero { Zero (length search.entry.query.now + length search.entry.items.hashes.now) work.new }
 {
-    let starts = minimizer_work::windows_per_start(settings, window);
-    if starts == 0 {
-        return early();
+    match minimizer_work::work(search, work) {
+        None => sweep::early(),
+        Some(found) => {
+            let size = search.query.len();
+            settle_found(search.settings.length, size, table, minimum, found)
+        }
     }
-    let k = query.len();
-    if k == 0 {
-        return early();
-    }
-    let items = minimizer_work::local_items(positions, range, settings.length);
-    if items.to <= items.from {
-        return early();
-    }
-    let found = minimizer_work::work(
-        query, hashes, positions, settings, window, range, items, keys, counts, coords, words,
-        summary,
-    );
-    settle_found(settings.length, k, identities, uppers, minimum, found)
 }
 
-// The same, whatever the work lists held.
+// The same, whatever the work lists held. Over slices: the `Work` of parts of lists is made where these are the function's own.
 fn clear_and_answer(
-    settings: Settings,
-    window: u32,
-    range: Range,
-    query: &[u64],
-    hashes: &[u64],
-    positions: &[u32],
-    identities: &[f64],
-    uppers: &[f64],
+    search: Search<'_, '_>,
+    table: Table<'_>,
     minimum: f64,
     keys: &mut [u64],
     counts: &mut [u32],
     coords: &mut [u32],
     words: &mut [u64],
     summary: &mut [u64],
-) -> SweepAnswer
-    requires { Ready query.now hashes.now positions.now × Table (length query.now) identities.now uppers.now × Exact (length query.now + length hashes.now) keys.old counts.old coords.old words.old summary.old }
-    ensures { (result ≡ minimizer_answer (sweep_of settings window range query.now hashes.now positions.now identities.now uppers.now minimum)) × Clear (length query.now + length hashes.now) keys.new counts.new coords.new words.new summary.new }
+) -> Outcome
+    requires ready { Ready search.query.now search.items.hashes.now search.items.positions.now }
+    requires table { Covers (length search.query.now) table.identities.now table.uppers.now }
+    requires exact { Exact (length search.query.now + length search.items.hashes.now) keys.old counts.old coords.old words.old summary.old }
+    ensures answer { Ok result ≡ minimizer_answer (asked_by search.entry table.entry minimum) }
+    ensures clear { Clear (length search.entry.query.now + length search.entry.items.hashes.now) keys.new counts.new coords.new words.new summary.new }
 {
-    sweep::clear(keys, counts, coords, words, summary);
-    answer(
-        settings, window, range, query, hashes, positions, identities, uppers, minimum, keys,
-        counts, coords, words, summary,
-    )
+    let mut work = Work {
+        keys,
+        counts,
+        coords,
+        words,
+        summary,
+    };
+    work.clear();
+    answer(search, table, minimum, &mut work)
 }
 
 // Where in the range the fragment lies best: `query` holds its hashes in ascending order, `hashes` and `positions` the reference's minimizers by
@@ -120,6 +88,7 @@ fn clear_and_answer(
 // refusal with its place, and every list as it was.
 // Lent lists want, for query and items together: keys, counts and coords an entry per hash, words one per 64 hashes, summary one per 64 words.
 // What they hold before does not matter; they are left zero that far, and nothing past it is touched.
+// The lists are parameters one by one: callers hold them apart, and the calls for C hand them on so.
 pub fn minimizer_sweep(
     settings: Settings,
     window: u32,
@@ -135,10 +104,17 @@ pub fn minimizer_sweep(
     coords: &mut [u32],
     words: &mut [u64],
     summary: &mut [u64],
-) -> SweepAnswer
+) -> Result<Outcome, Refusal>
     ensures { MinimizerPromise (sweep_of settings window range query.now hashes.now positions.now identities.now uppers.now minimum) result (lent_of keys.old counts.old coords.old words.old summary.old) (lent_of keys.new counts.new coords.new words.new summary.new) }
 {
-    let verdict = checks::check(
+    let lent = Lengths {
+        keys: keys.len(),
+        counts: counts.len(),
+        coords: coords.len(),
+        words: words.len(),
+        summary: summary.len(),
+    };
+    checks::check(
         query,
         hashes,
         positions,
@@ -146,32 +122,23 @@ pub fn minimizer_sweep(
         uppers.len(),
         settings.kmer,
         window,
-        keys.len(),
-        counts.len(),
-        coords.len(),
-        words.len(),
-        summary.len(),
-    );
-    if let Verdict::No(refusal) = verdict {
-        return SweepAnswer::Refused(refusal);
-    }
-    let m = query.len() + hashes.len();
-    let w = (m + 63) / 64;
-    let s = (w + 63) / 64;
-    clear_and_answer(
-        settings,
-        window,
-        range,
-        query,
-        hashes,
-        positions,
-        identities,
-        uppers,
+        lent,
+    )?;
+    let needed = Lengths::needed(query.len() + hashes.len());
+    Ok(clear_and_answer(
+        Search {
+            settings,
+            window,
+            range,
+            query,
+            items: Items { hashes, positions },
+        },
+        Table { identities, uppers },
         minimum,
-        &mut keys[..m],
-        &mut counts[..m],
-        &mut coords[..m],
-        &mut words[..w],
-        &mut summary[..s],
-    )
+        &mut keys[..needed.keys],
+        &mut counts[..needed.counts],
+        &mut coords[..needed.coords],
+        &mut words[..needed.words],
+        &mut summary[..needed.summary],
+    ))
 }

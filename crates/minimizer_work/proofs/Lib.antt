@@ -1,2 +1,4 @@
 -- Working: the work for one range
 pub mod Working
+-- Early: which ranges are early nones
+pub mod Early

@@ -7,7 +7,7 @@ use Prim.Native.Nat.{ℕ, zero, suc, ◌+◌, ◌-◌, ◌^◌, ◌≤◌, ◌<�
 use native.Mathlib.Nat.{not-suc-le-zero, le_of_suc-le-suc}
 use native.Mathlib.Omega.{arith}
 use lib.Dec.{ltb, eqb}
-use lib.ListN.{length, get_or, take, drop, replicate, length-map, length-take, length-drop}
+use lib.ListN.{length, get_or, take, drop, replicate, length-map, length-take, length-drop, get_or-eq_default}
 use lib.Seq.{take_all, get_or-take, get_or-drop}
 use borrow.Author.Tests.{eqb-true}
 use Rattle.base.specs.Lists.{All, Asc}
@@ -39,78 +39,84 @@ use Rattle.minimizer_stops.specs.declared.Swept.{Swept}
 use Rattle.minimizer_stops.specs.Stops.{stops_of, sites, Begin, Whole}
 use Rattle.rules.specs.Minimizer.{first_stop}
 use Rattle.minimizer_stops.proofs.Meaning.{whole_means}
-use Rattle.minimizer_work.specs.declared.Found.{Found}
+use Rattle.sweep.specs.declared.Found.{Found}
 use Rattle.minimizer_work.specs.Work.{Ready, Asks, Answers, Task, Done}
+use mathlib.Core.Logic.{⊎_elim}
+use Rattle.std.proofs.lemmas.Bool.{cases_lt}
+use Rattle.slide_mapper.specs.declared.lists.MapperLists.{MapperLists}
+use Rattle.minimizer_work.specs.declared.items.Items.{Items}
 
 abbrev hashes : List Item → List ℕ
 hashes items = map (λ (x : Item). x.hash) items
 
 -- ---- local items, as two lists
 
-module _ {query hs ps : List ℕ} {w : ℕ} (a : Asks query hs ps w) {cs is ws ss : List ℕ} {b : Begun} (g : Begins query hs cs is ws ss b) where
+module _ {query : List ℕ} {xs : Items} {w : ℕ} (a : Asks query xs w) {cs is ws ss : List ℕ} {b : Begun} (g : Begins query xs.hashes.now cs is ws ss b) where
   abbrev all : List ℕ
-  all = union query hs
+  all = union query xs.hashes.now
 
   abbrev items : List Item
-  items = items_of hs ps
+  items = items_of xs.hashes.now xs.positions.now
 
-  same : hashes items ≡ hs
-  same = items_hashes hs ps a.parallel
+  same : hashes items ≡ xs.hashes.now
+  same = items_hashes xs.hashes.now xs.positions.now xs.parallel
 
-  inside : All (λ h. member h all ≡ true) hs
-  inside = member_all (λ h. member h all ≡ true) hs (λ h m. member_union h query hs ∙ ap (λ (t : Bool). member h query || t) m ∙ or-true (member h query))
+  inside : All (λ h. member h all ≡ true) xs.hashes.now
+  inside = member_all (λ h. member h all ≡ true) xs.hashes.now (λ h m. member_union h query xs.hashes.now ∙ ap (λ (t : Bool). member h query || t) m ∙ or-true (member h query))
 
   -- the items' numbers are what stands behind the query's
-  module _ (long : length is ≡ length query + length hs) where
+  module _ (long : length is ≡ length query + length xs.hashes.now) where
     abbrev ns : List ℕ
     ns = take (length is - length query) (drop (length query) is)
 
-    numbers_are : ns ≡ map (number_of all) hs
+    numbers_are : ns ≡ map (number_of all) xs.hashes.now
     numbers_are = take_all (length is - length query) (drop (length query) is) (omega (arith, length-drop (length query) is)) ∙ g.numbers
 
-    numbers_long : length ns ≡ length hs
-    numbers_long = ap length numbers_are ∙ length-map hs (number_of all)
+    numbers_long : length ns ≡ length xs.hashes.now
+    numbers_long = ap length numbers_are ∙ length-map xs.hashes.now (number_of all)
 
-    pub run_begins : length cs ≡ length query + length hs → Begin ps ns w cs ws ss b.at
-    run_begins room = record {
-      holds = record {
-        active = g.active;
-        numbers =
-            subst (All (λ i. i < length cs)) (sym numbers_are)
-            (all_map (λ i. i < length all) (λ i. i < length cs) (λ i l. omega (arith, length_union query hs)) (map (number_of all) hs) (all_numbers all (strict_union query hs) hs inside));
-        few = omega (arith, numbers_long, a.few);
-        order = omega arith;
-        inside = omega arith;
-      };
-      parallel = numbers_long ∙ a.parallel;
-      asc = a.asc;
-      some = a.some;
-      small = a.small;
-      item = a.item;
-    }
-
-    module _ {last : ℕ} {r : Swept} (o : Whole (flags_of cs) ps ns w last r) where
+    module _ {last : ℕ} {r : Swept} (o : Whole (flags_of cs) xs.positions.now ns w last r) where
       -- by the query's marks among the coordinates
-      marked : Whole (marks query all) ps ns w last r
+      marked : Whole (marks query all) xs.positions.now ns w last r
       marked = record {
-        best = o.best ∙ ap (λ (q : List ℕ). best (map (scored_stop q (items_of ns ps)) (stops_of w last ps (first_stop w (sites ps))))) g.flags;
+        best = o.best ∙ ap (λ (q : List ℕ). best (map (scored_stop q (items_of ns xs.positions.now)) (stops_of w last xs.positions.now (first_stop w (sites xs.positions.now))))) g.flags;
         windows = o.windows;
       }
 
       named : Whole (marks query all) (positions items) (map (number_of all) (hashes items)) w last r
       named =
-          subst (λ (xs : List ℕ). Whole (marks query all) xs (map (number_of all) (hashes items)) w last r) (sym (items_positions hs ps a.parallel))
-          (subst (λ (xs : List ℕ). Whole (marks query all) ps xs w last r) (numbers_are ∙ ap (map (number_of all)) (sym same)) marked)
+          subst (λ (zs : List ℕ). Whole (marks query all) zs (map (number_of all) (hashes items)) w last r) (sym (items_positions xs.hashes.now xs.positions.now xs.parallel))
+          (subst (λ (zs : List ℕ). Whole (marks query all) xs.positions.now zs w last r) (numbers_are ∙ ap (map (number_of all)) (sym same)) marked)
 
-      pub run_answers : Answers query items w last (record { best = r.best; stats = record { windows = r.windows; coords = b.coords; items = length hs } })
+      pub run_answers : Answers query items w last (record { best = r.best; stats = record { windows = r.windows; coords = b.coords; items = length xs.hashes.now } })
       run_answers =
-          let m = whole_means query all items a.given.query_asc (strict_union query hs) (λ h i. union_left h query hs i) (subst (All (λ h. member h all ≡ true)) (sym same) inside) a.given.some w last named in
+          let m = whole_means query all items a.given.query_asc (strict_union query xs.hashes.now) (λ h i. union_left h query xs.hashes.now i) (subst (All (λ h. member h all ≡ true)) (sym same) inside) a.given.some w last named in
           record {
             best = m.0;
             windows = m.1;
-            coords = g.many ∙ ap (λ (xs : List ℕ). length (union query xs)) (sym same);
+            coords = g.many ∙ ap (λ (zs : List ℕ). length (union query zs)) (sym same);
             items_are = ap length (sym same) ∙ length-map items (λ (x : Item). x.hash);
           }
+
+-- what the sweep over the stops asks, of the lists as a struct
+pub run_begins : {query : List ℕ} {xs : Items} {w : ℕ} → Asks query xs w → {is : List ℕ} (m : MapperLists) {b : Begun} → Begins query xs.hashes.now m.counts.now is m.words.now m.summary.now b
+    → length is ≡ length query + length xs.hashes.now → length m.counts.now ≡ length query + length xs.hashes.now → Begin xs.positions.now (take (length is - length query) (drop (length query) is)) w m b.at
+run_begins {query} {xs} a m g long room = record {
+  holds = record {
+    active = g.active;
+    numbers =
+        subst (All (λ i. i < length m.counts.now)) (sym (numbers_are a g long))
+        (all_map (λ i. i < length (union query xs.hashes.now)) (λ i. i < length m.counts.now) (λ i l. omega (arith, length_union query xs.hashes.now)) (map (number_of (union query xs.hashes.now)) xs.hashes.now) (all_numbers (union query xs.hashes.now) (strict_union query xs.hashes.now) xs.hashes.now (inside a g)));
+    few = omega (arith, numbers_long a g long, a.few);
+    order = omega arith;
+    inside = omega arith;
+  };
+  parallel = numbers_long a g long ∙ xs.parallel;
+  asc = xs.asc;
+  some = a.some;
+  small = a.small;
+  item = a.item;
+}
 
 -- ---- the local items of a range
 
@@ -128,6 +134,11 @@ asc_part n b xs asc =
     let q : get_or (take n (drop b xs)) (i + 1) 0 ≡ get_or xs (b + (i + 1)) 0 = get_or-take n (drop b xs) (i + 1) 0 (omega arith) ∙ get_or-drop b xs (i + 1) 0 in
     omega (arith, asc_at xs asc (b + i) (b + (i + 1)) (omega arith) (omega arith))
 
+part_near : (n b : ℕ) (xs : List ℕ) → ((i : ℕ) → get_or xs i 0 < 2 ^ 32) → (i : ℕ) → get_or (take n (drop b xs)) i 0 < 2 ^ 32
+part_near n b xs near i =
+    ⊎_elim (λ (l : i < n). subst (λ (v : ℕ). v < 2 ^ 32) (sym (get_or-take n (drop b xs) i 0 l ∙ get_or-drop b xs i 0)) (near (b + i)))
+    (λ (l : n ≤ i). subst (λ (v : ℕ). v < 2 ^ 32) (sym (get_or-eq_default (take n (drop b xs)) 0 (omega (arith, length-take n (drop b xs))))) (omega arith)) (cases_lt i n)
+
 -- how many there are, from the two bounds
 pub local_many : (s : Sweep) → Ready s.query s.hashes s.starts → (from to : ℕ) → from ≡ below s.range.start s.starts
     → to ≡ below (s.range.end + s.settings.length) s.starts → length (local_items s) ≡ to - from
@@ -142,11 +153,11 @@ cut from to xs = take (to - from) (drop from xs)
 module _ {s : Sweep} {from to : ℕ} (t : Task s from to) where
   from_is : from ≡ local_from s
   unfolding number_of
-  from_is = t.begins ∙ below_number s.range.start s.starts
+  from_is = t.bounds.begins ∙ below_number s.range.start s.starts
 
   to_is : to ≡ local_to s
   unfolding number_of
-  to_is = t.ends ∙ below_number (s.range.end + s.settings.length) s.starts
+  to_is = t.bounds.ends ∙ below_number (s.range.end + s.settings.length) s.starts
 
   pub task_inside : to ≤ length s.hashes
   task_inside = omega (arith, to_is, lower-le (s.range.end + s.settings.length) s.starts, t.ready.parallel)
@@ -171,6 +182,15 @@ module _ {s : Sweep} {from to : ℕ} (t : Task s from to) where
   starts_long : length ps ≡ to - from
   starts_long = omega (arith, length-take (to - from) (drop from s.starts), length-drop from s.starts, task_inside, t.ready.parallel)
 
+  pub task_parallel : length hs ≡ length ps
+  task_parallel = hashes_long ∙ sym starts_long
+
+  pub task_asc : Asc ps
+  task_asc = asc_part (to - from) from s.starts t.ready.starts_asc
+
+  pub task_near : ((i : ℕ) → get_or s.starts i 0 < 2 ^ 32) → (i : ℕ) → get_or ps i 0 < 2 ^ 32
+  task_near near i = part_near (to - from) from s.starts near i
+
   -- m of the local items is no more than m of all
   pub task_fits : length s.query + (to - from) ≤ length s.query + length s.hashes
   task_fits = omega (arith, task_inside)
@@ -179,15 +199,13 @@ module _ {s : Sweep} {from to : ℕ} (t : Task s from to) where
   task_few = omega (arith, t.ready.few_hashes, t.ready.few_items)
 
   module _ {w : ℕ} (is_w : w ≡ windows_per_start s) where
-    pub task_asks : w < 2 ^ 32 → Asks s.query hs ps w
-    task_asks small = record {
-      given = record { few = omega (arith, hashes_long, task_few, task_inside); some = t.hash; query_asc = t.ready.query_asc };
-      few = omega (arith, hashes_long, task_inside, t.ready.few_items);
-      parallel = hashes_long ∙ sym starts_long;
-      asc = asc_part (to - from) from s.starts t.ready.starts_asc;
+    pub task_asks : w < 2 ^ 32 → (xs : Items) → xs.hashes.now ≡ hs → xs.positions.now ≡ ps → Asks s.query xs w
+    task_asks small xs hs_are ps_are = record {
+      given = record { few = omega (arith, ap length hs_are, hashes_long, task_few, task_inside); some = t.hash; query_asc = t.ready.query_asc };
+      few = omega (arith, ap length hs_are, hashes_long, task_inside, t.ready.few_items);
       some = omega (arith, is_w, t.windows);
       small = small;
-      item = omega (arith, starts_long, t.item);
+      item = omega (arith, ap length ps_are, starts_long, t.bounds.item);
     }
 
     -- demand 3: the best of the stops is the best of all admitted starts

@@ -1,92 +1,42 @@
 // Records read from a vectors file.
-ghost use Rattle.std.specs.Prelude.{◌<◌};
+ghost use Rattle.std.specs.Prelude.{◌≤◌, length};
 
+use crate::record::{Fault, Record};
 use std::io::Read;
+use std::{io, slice};
 
 // No record has more words than this.
 pub const LONGEST: usize = 8256;
 
-fn wide(x: u8) -> u64
-    ensures { result < 256 }
+// Reads words into a list until it is full.
+fn read_words<R: Read>(reader: &mut R, words: &mut [u64]) -> io::Result<()>
+    requires { length words.old ≤ LONGEST }
 {
-    x as u64
+    let mut bytes = [0u8; 8 * LONGEST];
+    let read = &mut bytes[..8 * words.len()];
+    reader.read_exact(read)?;
+    let (eights, _) = read.as_chunks::<8>();
+    for (word, eight) in words.iter_mut().zip(eights) {
+        *word = u64::from_le_bytes(*eight);
+    }
+    Ok(())
 }
 
-// Byte `at + i`, or 0.
-fn byte_at(bytes: &[u8], at: usize, i: usize) -> u64
-    ensures { result < 256 }
-{
-    if bytes.len() <= at {
-        return 0;
-    }
-    if bytes.len() - at <= i {
-        return 0;
-    }
-    wide(bytes[at + i])
+// Reads the head of a file and answers how many records follow.
+pub fn count<R: Read>(reader: &mut R) -> io::Result<u64> {
+    let mut head = [0u64; 4];
+    read_words(reader, &mut head)?;
+    Ok(head[2])
 }
 
-// The word whose lowest byte stands at `at`.
-fn word_at(bytes: &[u8], at: usize) -> u64 {
-    let mut word: u64 = 0;
-    let mut i: usize = 8;
-    while 0 < i {
-        i -= 1;
-        word = (word % 72057594037927936) * 256 + byte_at(bytes, at, i);
+// Reads the next record into the room: its first word is its length, this one counted.
+pub fn next<'a, R: Read>(reader: &mut R, room: &'a mut [u64]) -> Result<Record<'a>, Fault> {
+    let (length, rest) = room.split_first_mut().ok_or(Fault::Malformed)?;
+    read_words(reader, slice::from_mut(length))?;
+    let n = usize::try_from(*length)?;
+    if n == 0 || LONGEST < n {
+        return Err(Fault::Malformed);
     }
-    word
-}
-
-// The first n words of the bytes, from entry 1 of the list on: entry 0 is the length that was read before.
-fn decode(bytes: &[u8], out: &mut [u64], n: usize) -> bool {
-    let mut k: usize = 0;
-    while k < n {
-        if out.len() <= k + 1 {
-            return false;
-        }
-        if LONGEST <= k {
-            return false;
-        }
-        out[k + 1] = word_at(bytes, k * 8);
-        k += 1;
-    }
-    true
-}
-
-// Reads n words through `bytes` into the entries from 1 on; answers false where the file ends before.
-fn fetch<R: Read>(reader: &mut R, bytes: &mut [u8], out: &mut [u64], n: usize) -> bool {
-    if LONGEST < n {
-        return false;
-    }
-    let want = n * 8;
-    if bytes.len() < want {
-        return false;
-    }
-    match reader.read_exact(&mut bytes[0..want]) {
-        Ok(()) => decode(bytes, out, n),
-        Err(_) => false,
-    }
-}
-
-pub fn read_words<R: Read>(reader: &mut R, out: &mut [u64], n: usize) -> bool {
-    let mut bytes = [0u8; 66048];
-    fetch(reader, &mut bytes, out, n)
-}
-
-// Reads the next record and answers its length in words, 0 where there is none.
-pub fn next<R: Read>(reader: &mut R, record: &mut [u64]) -> usize {
-    let mut head = [0u64; 2];
-    if !read_words(reader, &mut head, 1) {
-        return 0;
-    }
-    let n = head[1] as usize;
-    if n == 0 {
-        return 0;
-    }
-    if record.len() < n {
-        return 0;
-    }
-    if !read_words(reader, record, n - 1) {
-        return 0;
-    }
-    n
+    read_words(reader, rest.get_mut(..n - 1).ok_or(Fault::Malformed)?)?;
+    Ok(Record { words: &room[..n] })
 }

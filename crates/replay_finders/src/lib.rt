@@ -1,113 +1,152 @@
-// One stored finder, of either kind: the call is made as the record says, and its answer and every entry of the lent lists are held to the
+// One stored finder, of either kind: the call is made as the record says, and its answer and every element of the lent lists are held to the
 // record. The two files have one form; what only intervals have is empty in the minimizers' file.
 #![tactic(auto)]
 
-use base::FinderAnswer;
-use records::{lists, words};
+use base::{Finding, Refusal};
+use records::lists::{POISON, POISON_WORD, holds, zeroed};
+use records::record::{Lists, MOST};
+use records::{Fault, Record};
 
-// The lists of a record, as its words 4 to 7 count them, follow each other from word 17 on; then come the contigs, the starts and the
-// ends of the ranges, as many of each as word 15 says.
+// Where the words of the answer stand, where those of its counts, and where the lists begin: those of the hits, and then the contigs, the starts
+// and the ends of the ranges, as many of each as the first count says, which a refused record has too.
+const ANSWER: usize = 13;
+
+const RANGES: usize = ANSWER + 2;
+
 const LISTS: usize = 17;
 
-// Whether the answer is the record's (words 13 to 16).
-fn answered(record: &[u64], answer: FinderAnswer) -> bool {
-    match answer {
-        FinderAnswer::Refused(refusal) => words::refuses(record, 13, refusal),
-        FinderAnswer::Listed(count, hits) => {
-            words::entry(record, 0, 13) == 0
-                && words::entry(record, 0, 15) == count as u64
-                && words::entry(record, 0, 16) == hits as u64
+// Room for the lists of the hits.
+#[derive(Drop)]
+struct Rooms {
+    groups: [u32; MOST],
+    contigs: [u32; MOST],
+    starts: [u32; MOST],
+    ends: [u32; MOST],
+}
+
+impl Rooms {
+    fn new() -> Rooms {
+        Rooms {
+            groups: [0; MOST],
+            contigs: [0; MOST],
+            starts: [0; MOST],
+            ends: [0; MOST],
         }
     }
 }
 
-// Whether the needed part of the keys is zero, the outputs hold the record's ranges, and all else is as it was. A refused record has no
-// range.
-fn left(record: &[u64], keys: &[u64], contigs: &[u32], starts: &[u32], ends: &[u32]) -> bool {
-    let n = words::size_at(record, 15);
-    let ranges = words::after(record, LISTS, 4, 8);
-    let range_starts = words::after(record, ranges, 15, 16);
-    lists::zeroed_words(keys, words::changed(record, 13, 5))
-        && lists::holds(contigs, record, ranges, n)
-        && lists::holds(starts, record, range_starts, n)
-        && lists::holds(ends, record, words::after(record, range_starts, 15, 16), n)
+// The hits that a call is told.
+#[derive(Clone, Copy)]
+struct Hits<'a> {
+    groups: &'a [u32],
+    contigs: &'a [u32],
+    starts: &'a [u32],
+    ends: &'a [u32],
 }
 
-// The call on minimizers, with as much of each lent list as words 8 and 10 to 12 say.
-fn minimizers(record: &[u64], groups: &[u32], hit_contigs: &[u32], positions: &[u32]) -> bool {
-    let mut keys = [lists::POISON_WORD; 8192];
-    let mut contigs = [lists::POISON; 8192];
-    let mut starts = [lists::POISON; 8192];
-    let mut ends = [lists::POISON; 8192];
+impl<'a> Hits<'a> {
+    fn read(lists: &mut Lists<'_>, rooms: &'a mut Rooms) -> Result<Hits<'a>, Fault> {
+        let Rooms {
+            groups,
+            contigs,
+            starts,
+            ends,
+        } = rooms;
+        Ok(Hits {
+            groups: lists.read(4, groups)?,
+            contigs: lists.read(5, contigs)?,
+            starts: lists.read(6, starts)?,
+            ends: lists.read(7, ends)?,
+        })
+    }
+}
+
+// The lists that both kinds are lent.
+#[derive(Drop)]
+struct Lent {
+    keys: [u64; MOST],
+    contigs: [u32; MOST],
+    starts: [u32; MOST],
+    ends: [u32; MOST],
+}
+
+impl Lent {
+    fn new() -> Lent {
+        Lent {
+            keys: [POISON_WORD; MOST],
+            contigs: [POISON; MOST],
+            starts: [POISON; MOST],
+            ends: [POISON; MOST],
+        }
+    }
+
+    // Whether so many keys are zero, the outputs hold the record's ranges, and all else is as it was.
+    fn left(&self, keys: usize, mut ranges: Lists<'_>) -> Result<bool, Fault> {
+        Ok(
+            zeroed(&self.keys, keys)
+                && holds(&self.contigs, ranges.list(RANGES)?)
+                && holds(&self.starts, ranges.list(RANGES)?)
+                && holds(&self.ends, ranges.list(RANGES)?),
+        )
+    }
+}
+
+// Whether the record says this of the answer.
+fn answered(record: Record<'_>, answer: Result<Finding, Refusal>) -> bool {
+    match answer {
+        Ok(finding) => {
+            record.says(ANSWER, &[0])
+                && record.says(RANGES, &[u64::from(finding.count), u64::from(finding.hits)])
+        }
+        Err(refusal) => record.refuses(ANSWER, refusal),
+    }
+}
+
+// Replays a record of the minimizer finder. What it has of `intervals` is in the structs and `answered`; the rest is the call, whose lists
+// differ, so that one function of both would pass as many to a closure.
+pub fn minimizers(record: Record<'_>) -> Result<(), Fault> {
+    // No list is lent for keys of ends, but the record has a size for one.
+    record.size(9)?;
+    let mut rooms = Rooms::new();
+    let mut lists = record.lists(LISTS)?;
+    let hits = Hits::read(&mut lists, &mut rooms)?;
+    let mut lent = Lent::new();
     let answer = candidate_window::minimizer_finder(
-        words::front(groups, record, 4),
-        words::front(hit_contigs, record, 5),
-        words::front(positions, record, 6),
-        words::entry(record, 0, 3),
-        words::number_at(record, 1),
-        words::number_at(record, 2),
-        lists::lend_words(&mut keys, record, 8),
-        lists::lend(&mut contigs, record, 10),
-        lists::lend(&mut starts, record, 11),
-        lists::lend(&mut ends, record, 12),
+        hits.groups,
+        hits.contigs,
+        hits.starts,
+        record.word(3)?,
+        record.number(1)?,
+        record.number(2)?,
+        &mut lent.keys[..record.size(8)?],
+        &mut lent.contigs[..record.size(10)?],
+        &mut lent.starts[..record.size(11)?],
+        &mut lent.ends[..record.size(12)?],
     );
-    answered(record, answer) && left(record, &keys, &contigs, &starts, &ends)
+    let keys = if answer.is_ok() { record.size(5)? } else { 0 };
+    Fault::unless(answered(record, answer) && lent.left(keys, lists)?)
 }
 
-// The call on intervals, which wants keys of ends besides.
-fn intervals(
-    record: &[u64],
-    groups: &[u32],
-    hit_contigs: &[u32],
-    hit_starts: &[u32],
-    hit_ends: &[u32],
-) -> bool {
-    let mut keys = [lists::POISON_WORD; 8192];
-    let mut end_keys = [lists::POISON_WORD; 8192];
-    let mut contigs = [lists::POISON; 8192];
-    let mut starts = [lists::POISON; 8192];
-    let mut ends = [lists::POISON; 8192];
+// Replays a record of the interval finder, which wants keys of ends besides.
+pub fn intervals(record: Record<'_>) -> Result<(), Fault> {
+    let mut rooms = Rooms::new();
+    let mut lists = record.lists(LISTS)?;
+    let hits = Hits::read(&mut lists, &mut rooms)?;
+    let mut lent = Lent::new();
+    let mut end_keys = [POISON_WORD; MOST];
     let answer = candidate_intervals::interval_finder(
-        words::front(groups, record, 4),
-        words::front(hit_contigs, record, 5),
-        words::front(hit_starts, record, 6),
-        words::front(hit_ends, record, 7),
-        words::entry(record, 0, 3),
-        words::number_at(record, 1),
-        lists::lend_words(&mut keys, record, 8),
-        lists::lend_words(&mut end_keys, record, 9),
-        lists::lend(&mut contigs, record, 10),
-        lists::lend(&mut starts, record, 11),
-        lists::lend(&mut ends, record, 12),
+        hits.groups,
+        hits.contigs,
+        hits.starts,
+        hits.ends,
+        record.word(3)?,
+        record.number(1)?,
+        &mut lent.keys[..record.size(8)?],
+        &mut end_keys[..record.size(9)?],
+        &mut lent.contigs[..record.size(10)?],
+        &mut lent.starts[..record.size(11)?],
+        &mut lent.ends[..record.size(12)?],
     );
-    answered(record, answer)
-        && left(record, &keys, &contigs, &starts, &ends)
-        && lists::zeroed_words(&end_keys, words::changed(record, 13, 7))
-}
-
-// Replays a record, of intervals or of minimizers, and answers whether all was as it says.
-pub fn replay(record: &[u64], spans: bool) -> bool {
-    let mut groups = [0u32; 8192];
-    let mut contigs = [0u32; 8192];
-    let mut starts = [0u32; 8192];
-    let mut ends = [0u32; 8192];
-    if !words::whole(record, LISTS, 4, 8, 13) {
-        return false;
-    }
-    if !words::narrow(record, LISTS, 4, 4, &mut groups) {
-        return false;
-    }
-    if !words::narrow(record, LISTS, 4, 5, &mut contigs) {
-        return false;
-    }
-    if !words::narrow(record, LISTS, 4, 6, &mut starts) {
-        return false;
-    }
-    if !words::narrow(record, LISTS, 4, 7, &mut ends) {
-        return false;
-    }
-    if spans {
-        return intervals(record, &groups, &contigs, &starts, &ends);
-    }
-    minimizers(record, &groups, &contigs, &starts)
+    let keys = if answer.is_ok() { record.size(5)? } else { 0 };
+    Fault::unless(answered(record, answer) && zeroed(&end_keys, keys) && lent.left(keys, lists)?)
 }

@@ -1,78 +1,66 @@
-// One stored script: the call is made as the record says, and its answer and every entry of the lent lists are held to the record.
+// One stored script: the call is made as the record says, and its answer and every element of the lent lists are held to the record.
 #![tactic(auto)]
 
-use base::ScriptAnswer;
-use records::{lists, words};
+use base::{Refusal, Slide};
+use records::lists::{POISON, POISON_WORD, holds, zeroed};
+use records::record::MOST;
+use records::{Fault, Record};
 
-// The lists of a record, as its words 1 to 4 count them, follow each other from word 14 on; where the script is done, the pivots and the
-// shared counts come last.
+// Where the words of the answer stand, where those of a script that is done, and where the lists begin: those of the call, and where it is done
+// the pivots and the shared counts.
+const ANSWER: usize = 10;
+
+const LAST: usize = ANSWER + 2;
+
 const LISTS: usize = 14;
 
-// Whether the answer is the record's (words 10 to 13).
-fn answered(record: &[u64], answer: ScriptAnswer) -> bool {
+// Whether the record says this of the answer.
+fn answered(record: Record<'_>, answer: Result<Slide, Refusal>) -> bool {
     match answer {
-        ScriptAnswer::Refused(refusal) => words::refuses(record, 10, refusal),
-        ScriptAnswer::Done(pivot, shared) => {
-            words::entry(record, 0, 10) == 0
-                && words::entry(record, 0, 12) == pivot.0 as u64
-                && words::entry(record, 0, 13) == shared as u64
+        Ok(last) => {
+            record.says(ANSWER, &[0])
+                && record.says(LAST, &[u64::from(last.pivot.0), u64::from(last.shared)])
         }
+        Err(refusal) => record.refuses(ANSWER, refusal),
     }
 }
 
-// Whether the needed part of each work list is zero, the outputs hold the record's answers, and all else is as it was.
-fn left(
-    record: &[u64],
-    counts: &[u32],
-    bits: &[u64],
-    summary: &[u64],
-    pivots: &[u32],
-    shareds: &[u32],
-) -> bool {
-    let m = words::changed(record, 10, 2);
-    let w = (m + 63) / 64;
-    let steps = words::changed(record, 10, 3);
-    let answers = words::after(record, LISTS, 1, 5);
-    lists::zeroed(counts, m)
-        && lists::zeroed_words(bits, w)
-        && lists::zeroed_words(summary, (w + 63) / 64)
-        && lists::holds(pivots, record, answers, steps)
-        && lists::holds(shareds, record, words::after(record, answers, 3, 4), steps)
-}
-
-// The call, with as much of each lent list as words 5 to 9 say.
-fn call(record: &[u64], indexes: &[u32], kinds: &[u8]) -> bool {
-    let mut counts = [lists::POISON; 8192];
-    let mut bits = [lists::POISON_WORD; 8192];
-    let mut summary = [lists::POISON_WORD; 8192];
-    let mut pivots = [lists::POISON; 8192];
-    let mut shareds = [lists::POISON; 8192];
+// Replays a record.
+pub fn replay(record: Record<'_>) -> Result<(), Fault> {
+    let mut indexes = [0u32; MOST];
+    let mut kinds = [0u8; MOST];
+    let mut counts = [POISON; MOST];
+    let mut bits = [POISON_WORD; MOST];
+    let mut summary = [POISON_WORD; MOST];
+    let mut pivots = [POISON; MOST];
+    let mut shareds = [POISON; MOST];
+    let mut lists = record.lists(LISTS)?;
+    let query = lists.list(1)?;
+    let coords = lists.list(2)?;
     let answer = script::script(
-        words::part(record, LISTS, 1, 1),
-        words::part(record, LISTS, 1, 2),
-        words::front(indexes, record, 3),
-        words::front_bytes(kinds, record, 4),
-        lists::lend(&mut counts, record, 5),
-        lists::lend_words(&mut bits, record, 6),
-        lists::lend_words(&mut summary, record, 7),
-        lists::lend(&mut pivots, record, 8),
-        lists::lend(&mut shareds, record, 9),
+        query,
+        coords,
+        lists.read(3, &mut indexes)?,
+        lists.read(4, &mut kinds)?,
+        &mut counts[..record.size(5)?],
+        &mut bits[..record.size(6)?],
+        &mut summary[..record.size(7)?],
+        &mut pivots[..record.size(8)?],
+        &mut shareds[..record.size(9)?],
     );
-    answered(record, answer) && left(record, &counts, &bits, &summary, &pivots, &shareds)
-}
-
-// Replays a record and answers whether all was as it says.
-pub fn replay(record: &[u64]) -> bool {
-    let mut indexes = [0u32; 8192];
-    let mut kinds = [0u8; 8192];
-    if !words::whole(record, LISTS, 1, 5, 10) {
-        return false;
-    }
-    if !words::narrow(record, LISTS, 1, 3, &mut indexes) {
-        return false;
-    }
-    if !words::narrow_bytes(record, LISTS, 1, 4, &mut kinds) {
-        return false;
-    }
-    call(record, &indexes, &kinds)
+    // A refusal changes no list.
+    let (cleared, pivots_told, shareds_told) = if answer.is_ok() {
+        (coords.len(), lists.list(3)?, lists.list(3)?)
+    } else {
+        (0, &[][..], &[][..])
+    };
+    let blocks = cleared.div_ceil(64);
+    Fault::unless(
+        answered(record, answer)
+            && zeroed(&counts, cleared)
+            && zeroed(&bits, blocks)
+            && zeroed(&summary, blocks.div_ceil(64))
+            && holds(&pivots, pivots_told)
+            && holds(&shareds, shareds_told),
+    )
 }

@@ -1,158 +1,220 @@
-// One stored sweep, of either kind: the call is made as the record says, and its answer and every entry of the lent lists are held to the
+// One stored sweep, of either kind: the call is made as the record says, and its answer and every element of the lent lists are held to the
 // record. The two files have one form; what only intervals have is empty in the minimizers' file.
 #![tactic(auto)]
 
-use base::{Place, Range, Settings, Stats, SweepAnswer};
-use records::{floats, lists, words};
+use base::{Outcome, Place, Range, Refusal, Settings, Stats};
+use records::floats::has_bits;
+use records::lists::{POISON, POISON_WORD, zeroed};
+use records::record::MOST;
+use records::{Fault, Record};
 
-// The lists of a record, as its words 7 to 12 count them, follow each other from word 31 on.
+// Where the words of the answer stand, where those of its place and of its counts, and where the lists of the call begin.
+const ANSWER: usize = 19;
+
+const PLACE: usize = ANSWER + 2;
+
+const COUNTS: usize = ANSWER + 9;
+
 const LISTS: usize = 31;
 
-fn settings(record: &[u64]) -> Settings {
-    Settings {
-        kmer: words::number_at(record, 1),
-        length: words::number_at(record, 3),
+// Room for the lists that a call takes at a width of their own.
+#[derive(Drop)]
+struct Rooms {
+    starts: [u32; MOST],
+    ends: [u32; MOST],
+    identities: [f64; MOST],
+    uppers: [f64; MOST],
+}
+
+impl Rooms {
+    fn new() -> Rooms {
+        Rooms {
+            starts: [0; MOST],
+            ends: [0; MOST],
+            identities: [0.0; MOST],
+            uppers: [0.0; MOST],
+        }
     }
 }
 
-fn range(record: &[u64]) -> Range {
-    Range {
-        start: words::number_at(record, 4),
-        end: words::number_at(record, 5),
+// What a call is told.
+#[derive(Clone, Copy)]
+struct Task<'a> {
+    settings: Settings,
+    window: u32,
+    range: Range,
+    query: &'a [u64],
+    hashes: &'a [u64],
+    starts: &'a [u32],
+    ends: &'a [u32],
+    identities: &'a [f64],
+    uppers: &'a [f64],
+    minimum: f64,
+}
+
+impl<'a> Task<'a> {
+    fn read(record: Record<'a>, rooms: &'a mut Rooms) -> Result<Task<'a>, Fault> {
+        let Rooms {
+            starts,
+            ends,
+            identities,
+            uppers,
+        } = rooms;
+        let mut lists = record.lists(LISTS)?;
+        Ok(Task {
+            settings: Settings {
+                kmer: record.number(1)?,
+                length: record.number(3)?,
+            },
+            window: record.number(2)?,
+            range: Range {
+                start: record.number(4)?,
+                end: record.number(5)?,
+            },
+            query: lists.list(7)?,
+            hashes: lists.list(8)?,
+            starts: lists.read(9, starts)?,
+            ends: lists.read(10, ends)?,
+            identities: lists.read(11, identities)?,
+            uppers: lists.read(12, uppers)?,
+            minimum: float_bits::float_of(record.word(6)?),
+        })
     }
 }
 
-// Whether the place is the record's (words 22 to 27).
-fn placed(record: &[u64], place: Place) -> bool {
-    words::entry(record, 0, 22) == place.start.0
-        && words::entry(record, 0, 23) == place.end.0
-        && words::entry(record, 0, 24) == place.shared as u64
-        && words::entry(record, 0, 25) == place.size as u64
-        && floats::has_bits(place.estimate.identity, words::entry(record, 0, 26))
-        && floats::has_bits(place.estimate.upper, words::entry(record, 0, 27))
+// The work lists that both kinds are lent.
+#[derive(Drop)]
+struct Work {
+    keys: [u64; MOST],
+    counts: [u32; MOST],
+    coords: [u32; MOST],
+    bits: [u64; MOST],
+    summary: [u64; MOST],
 }
 
-// Whether the call was to be answered so: not refused, `found` 1 where placed, and with these counts (words 28 to 30).
-fn counted(record: &[u64], found: u64, stats: Stats) -> bool {
-    words::entry(record, 0, 19) == 0
-        && words::entry(record, 0, 21) == found
-        && words::entry(record, 0, 28) == stats.windows
-        && words::entry(record, 0, 29) == stats.coords as u64
-        && words::entry(record, 0, 30) == stats.items as u64
+impl Work {
+    fn new() -> Work {
+        Work {
+            keys: [POISON_WORD; MOST],
+            counts: [POISON; MOST],
+            coords: [POISON; MOST],
+            bits: [POISON_WORD; MOST],
+            summary: [POISON_WORD; MOST],
+        }
+    }
+
+    // Whether what so many hashes need is zero and all else is as it was.
+    fn left(&self, hashes: usize) -> bool {
+        let blocks = hashes.div_ceil(64);
+        zeroed(&self.keys, hashes)
+            && zeroed(&self.counts, hashes)
+            && zeroed(&self.coords, hashes)
+            && zeroed(&self.bits, blocks)
+            && zeroed(&self.summary, blocks.div_ceil(64))
+    }
 }
 
-// Whether the answer is the record's (words 19 to 30).
-fn answered(record: &[u64], answer: SweepAnswer) -> bool {
+// Whether the record says this of the place. Where there is none, the words of one are not looked at.
+fn placed(record: Record<'_>, place: Option<Place>) -> Result<bool, Fault> {
+    match place {
+        Some(place) => {
+            let words = [
+                1,
+                place.start.0,
+                place.end.0,
+                u64::from(place.shared),
+                u64::from(place.size),
+            ];
+            Ok(
+                record.says(PLACE, &words)
+                    && has_bits(place.estimate.identity, record.word(PLACE + 5)?)
+                    && has_bits(place.estimate.upper, record.word(PLACE + 6)?),
+            )
+        }
+        None => Ok(record.says(PLACE, &[0])),
+    }
+}
+
+fn counted(record: Record<'_>, stats: Stats) -> bool {
+    let words = [
+        stats.windows,
+        u64::from(stats.coords),
+        u64::from(stats.items),
+    ];
+    record.says(COUNTS, &words)
+}
+
+// Whether the record says this of the answer.
+fn answered(record: Record<'_>, answer: Result<Outcome, Refusal>) -> Result<bool, Fault> {
     match answer {
-        SweepAnswer::Refused(refusal) => words::refuses(record, 19, refusal),
-        SweepAnswer::Nothing(stats) => counted(record, 0, stats),
-        SweepAnswer::Placed(place, stats) => counted(record, 1, stats) && placed(record, place),
+        Ok(outcome) => Ok(
+            record.says(ANSWER, &[0])
+                && placed(record, outcome.place)?
+                && counted(record, outcome.stats),
+        ),
+        Err(refusal) => Ok(record.refuses(ANSWER, refusal)),
     }
 }
 
-// Whether the needed part of each work list is zero and all else is as it was.
-fn left(
-    record: &[u64],
-    keys: &[u64],
-    counts: &[u32],
-    coords: &[u32],
-    bits: &[u64],
-    summary: &[u64],
-) -> bool {
-    let m = words::changed(record, 19, 7) + words::changed(record, 19, 8);
-    let w = (m + 63) / 64;
-    lists::zeroed_words(keys, m)
-        && lists::zeroed(counts, m)
-        && lists::zeroed(coords, m)
-        && lists::zeroed_words(bits, w)
-        && lists::zeroed_words(summary, (w + 63) / 64)
-}
-
-// The call on minimizers, with as much of each lent list as words 13 to 17 say.
-fn minimizers(record: &[u64], positions: &[u32], identities: &[f64], uppers: &[f64]) -> bool {
-    let mut keys = [lists::POISON_WORD; 8192];
-    let mut counts = [lists::POISON; 8192];
-    let mut coords = [lists::POISON; 8192];
-    let mut bits = [lists::POISON_WORD; 8192];
-    let mut summary = [lists::POISON_WORD; 8192];
+// Replays a record of the minimizer sweep. What it has of `intervals` is in the three structs and `answered`; the rest is the call, whose lists
+// differ, so that one function of both would pass as many to a closure.
+pub fn minimizers(record: Record<'_>) -> Result<(), Fault> {
+    // No list is lent for event keys, but the record has a size for one.
+    record.size(18)?;
+    let mut rooms = Rooms::new();
+    let task = Task::read(record, &mut rooms)?;
+    let mut work = Work::new();
     let answer = minimizer_sweep::minimizer_sweep(
-        settings(record),
-        words::number_at(record, 2),
-        range(record),
-        words::part(record, LISTS, 7, 7),
-        words::part(record, LISTS, 7, 8),
-        words::front(positions, record, 9),
-        floats::front(identities, record, 11),
-        floats::front(uppers, record, 12),
-        float_bits::float_of(words::entry(record, 0, 6)),
-        lists::lend_words(&mut keys, record, 13),
-        lists::lend(&mut counts, record, 14),
-        lists::lend(&mut coords, record, 15),
-        lists::lend_words(&mut bits, record, 16),
-        lists::lend_words(&mut summary, record, 17),
+        task.settings,
+        task.window,
+        task.range,
+        task.query,
+        task.hashes,
+        task.starts,
+        task.identities,
+        task.uppers,
+        task.minimum,
+        &mut work.keys[..record.size(13)?],
+        &mut work.counts[..record.size(14)?],
+        &mut work.coords[..record.size(15)?],
+        &mut work.bits[..record.size(16)?],
+        &mut work.summary[..record.size(17)?],
     );
-    answered(record, answer) && left(record, &keys, &counts, &coords, &bits, &summary)
+    let hashes = if answer.is_ok() {
+        record.size(7)? + record.size(8)?
+    } else {
+        0
+    };
+    Fault::unless(answered(record, answer)? && work.left(hashes))
 }
 
-// The call on intervals, which wants event keys besides, two for each end.
-fn intervals(
-    record: &[u64],
-    starts: &[u32],
-    ends: &[u32],
-    identities: &[f64],
-    uppers: &[f64],
-) -> bool {
-    let mut keys = [lists::POISON_WORD; 8192];
-    let mut counts = [lists::POISON; 8192];
-    let mut coords = [lists::POISON; 8192];
-    let mut bits = [lists::POISON_WORD; 8192];
-    let mut summary = [lists::POISON_WORD; 8192];
-    let mut events = [lists::POISON_WORD; 8192];
+// Replays a record of the interval sweep, which wants event keys besides, two for each interval.
+pub fn intervals(record: Record<'_>) -> Result<(), Fault> {
+    let mut rooms = Rooms::new();
+    let task = Task::read(record, &mut rooms)?;
+    let mut work = Work::new();
+    let mut events = [POISON_WORD; MOST];
     let answer = interval_sweep::interval_sweep(
-        settings(record),
-        range(record),
-        words::part(record, LISTS, 7, 7),
-        words::part(record, LISTS, 7, 8),
-        words::front(starts, record, 9),
-        words::front(ends, record, 10),
-        floats::front(identities, record, 11),
-        floats::front(uppers, record, 12),
-        float_bits::float_of(words::entry(record, 0, 6)),
-        lists::lend_words(&mut keys, record, 13),
-        lists::lend(&mut counts, record, 14),
-        lists::lend(&mut coords, record, 15),
-        lists::lend_words(&mut bits, record, 16),
-        lists::lend_words(&mut summary, record, 17),
-        lists::lend_words(&mut events, record, 18),
+        task.settings,
+        task.range,
+        task.query,
+        task.hashes,
+        task.starts,
+        task.ends,
+        task.identities,
+        task.uppers,
+        task.minimum,
+        &mut work.keys[..record.size(13)?],
+        &mut work.counts[..record.size(14)?],
+        &mut work.coords[..record.size(15)?],
+        &mut work.bits[..record.size(16)?],
+        &mut work.summary[..record.size(17)?],
+        &mut events[..record.size(18)?],
     );
-    answered(record, answer)
-        && left(record, &keys, &counts, &coords, &bits, &summary)
-        && lists::zeroed_words(&events, 2 * words::changed(record, 19, 10))
-}
-
-// Replays a record, of intervals or of minimizers, and answers whether all was as it says.
-pub fn replay(record: &[u64], spans: bool) -> bool {
-    let mut starts = [0u32; 8192];
-    let mut ends = [0u32; 8192];
-    let mut identities = [0.0f64; 8192];
-    let mut uppers = [0.0f64; 8192];
-    if !words::whole(record, LISTS, 7, 13, 19) {
-        return false;
-    }
-    if !words::narrow(record, LISTS, 7, 9, &mut starts) {
-        return false;
-    }
-    if !words::narrow(record, LISTS, 7, 10, &mut ends) {
-        return false;
-    }
-    if !floats::floats(record, LISTS, 7, 11, &mut identities) {
-        return false;
-    }
-    if !floats::floats(record, LISTS, 7, 12, &mut uppers) {
-        return false;
-    }
-    if spans {
-        return intervals(record, &starts, &ends, &identities, &uppers);
-    }
-    minimizers(record, &starts, &identities, &uppers)
+    let (hashes, ends) = if answer.is_ok() {
+        (record.size(7)? + record.size(8)?, 2 * record.size(10)?)
+    } else {
+        (0, 0)
+    };
+    Fault::unless(answered(record, answer)? && work.left(hashes) && zeroed(&events, ends))
 }

@@ -8,7 +8,7 @@ use borrow.Author.Tests.{ltb-true, ltb-false, leb-true, eqb-true, eqb-false}
 use lib.ListN.{length, get_or}
 use lib.Dec.{ltb, leb, eqb}
 use Rattle.base.specs.Pick.{pick}
-use Rattle.base.specs.declared.Verdict.TheVariants.{Fine}
+use Rattle.base.specs.Verdicts.{Fine}
 use Rattle.base.proofs.OrderChecks.{order_strict, order_asc}
 use Rattle.base.proofs.Verdicts.{or_fine, stop_fine, skip_fine}
 use Rattle.rules.specs.Lists.{member}

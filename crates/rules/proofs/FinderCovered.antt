@@ -9,7 +9,7 @@ use native.Mathlib.Omega.{arith}
 use lib.Dec.{eqb}
 use borrow.Author.Tests.{lt-ltb, le-ltb, le-leb, lt-leb, eq-eqb, ne_eqb}
 use Rattle.base.specs.Pick.{pick}
-use Rattle.base.proofs.Order.{eq_or_ne, lt_or_ge}
+use Rattle.std.proofs.lemmas.Bool.{cases_eq, cases_lt}
 use Rattle.rules.specs.Finder.{Candidate, key_contig, key_at, active_after, covered_to, covered_from, covered}
 
 -- a start, and an end
@@ -24,10 +24,10 @@ active_end k n = rw (ne_eqb (k * 2 % 2) 1 (omega arith))
 -- a count that is 0 where the contigs differ
 same_count : (a b n : ℕ) → (0 < n → a ≡ b) → pick (eqb a b) n 0 ≡ n
 unfolding pick
-same_count a b n same = ⊎_elim (λ (e : a ≡ b). rw (eq-eqb a b e)) (λ (d : a ≢ b). rw (ne_eqb a b d) (zero_count d)) (eq_or_ne a b)
+same_count a b n same = ⊎_elim (λ (e : a ≡ b). rw (eq-eqb a b e)) (λ (d : a ≢ b). rw (ne_eqb a b d) (zero_count d)) (cases_eq a b)
   where
     zero_count : a ≢ b → 0 ≡ n
-    zero_count d = ⊎_elim (λ (l : 0 < n). absurd (d (same l))) (λ (l : n ≤ 0). omega arith) (lt_or_ge 0 n)
+    zero_count d = ⊎_elim (λ (l : 0 < n). absurd (d (same l))) (λ (l : n ≤ 0). omega arith) (cases_lt 0 n)
 
 none : (b : Bool) → pick {A = ℕ} b 0 0 ≡ 0
 unfolding pick

@@ -36,10 +36,6 @@ pub sum_next : (gs : List ℕ) (g : ℕ) → g < length gs → sum (drop g gs) �
 unfolding sum
 sum_next gs g l = rw (drop-cons gs g 0, add-one)
 
-pub sum_end : (gs : List ℕ) (g : ℕ) → length gs ≤ g → sum (drop g gs) ≡ 0
-unfolding sum
-sum_end gs g l = rw (drop_of_length-le gs l)
-
 -- the hits of the groups from g on, which begin at `at`
 abbrev pub kept_from : {A : Type 0} → ℕ → List ℕ → List A → ℕ → ℕ → List A
 kept_from threshold groups hits g at = kept threshold (drop g groups) (drop at hits)

@@ -12,7 +12,7 @@ use lib.ListN.{length, drop, get_or, drop_of_length-le}
 use lib.Seq.{drop-cons}
 use borrow.Author.Tests.{lt-ltb, le-ltb, eq-eqb, ne_eqb}
 use Rattle.base.specs.Pick.{pick}
-use Rattle.base.proofs.Order.{eq_or_ne}
+use Rattle.std.proofs.lemmas.Bool.{cases_eq}
 use Rattle.rules.specs.Finder.{Candidate, key_contig, key_at, run_range, run_ranges}
 
 -- the ranges of the runs whose first hit is at i or later
@@ -59,4 +59,4 @@ module _ (len a z : ℕ) where
 
     -- as far as the length: in another contig, or too long
     pub run_far : len ≤ z - a → run_range len a z ≡ []
-    run_far l = ⊎_elim (λ (e : key_contig a ≡ key_contig z). too_long e l) (λ (n : key_contig a ≢ key_contig z). run_other n) (eq_or_ne (key_contig a) (key_contig z))
+    run_far l = ⊎_elim (λ (e : key_contig a ≡ key_contig z). too_long e l) (λ (n : key_contig a ≢ key_contig z). run_other n) (cases_eq (key_contig a) (key_contig z))

@@ -12,8 +12,8 @@ use lib.ListN.{length, get_or, length-replicate, get_or-replicate, length-map}
 use lib.Dec.{ltb, leb, eqb}
 use borrow.Author.Tests.{ltb-true, ltb-false, leb-true, eqb-true, not-true}
 use Rattle.base.specs.Pick.{pick}
-use Rattle.base.specs.declared.Verdict.{Verdict}
-use Rattle.base.specs.declared.Verdict.TheVariants.{Fine, No}
+use Rattle.base.specs.Verdicts.{Verdict}
+use Rattle.base.specs.Verdicts.{Fine}
 use Rattle.base.specs.Lists.{All}
 use Rattle.base.proofs.Lists.{all_map}
 use Rattle.rules.specs.Lists.{member, count, filter}
@@ -32,6 +32,9 @@ use Rattle.rules.proofs.IntervalEach.{Each, each_map, each_both, each_all, each_
 use Rattle.rules.proofs.IntervalEvents.{Good, Key, on, inserts, deletes, last_key, past_last, later_all, event_keys, event_order, event_cover}
 use Rattle.rules.proofs.IntervalActive.{length_inserted, inserted_at, begun_on}
 use Rattle.rules.proofs.IntervalSpans.{Swept, strict_coords, spans_runs}
+use Rattle.std.specs.Prelude.{Ok, Err}
+use Rattle.base.specs.declared.Reason.{Reason}
+use Rattle.base.specs.declared.Reason.TheVariants.{TooLarge}
 
 -- ---- what is known of the taken intervals
 
@@ -148,18 +151,18 @@ coords_fit s q h = omega (arith, length_coords s, length_taken s)
 
 else_fine : (v w : Verdict) → or_else v w ≡ Fine → v ≡ Fine
 unfolding or_else
-else_fine Fine w e = refl
-else_fine (No r) w e = e
+else_fine (Ok u) w e = refl
+else_fine (Err r) w e = e
 
-never_refused : (number : ℕ) → refuse number 0 ≡ Fine → ⊥
+never_refused : (reason : Reason) → refuse reason 0 ≡ Fine → ⊥
 never_refused number e = let z : ◌≡◌ {A = ℕ} 0 1 = cc in omega arith
 
 sizes_fine : (query hashes starts ends identities uppers kmer : ℕ) → interval_sizes query hashes starts ends identities uppers kmer ≡ Fine → (query ≤ query_limit) × (hashes ≤ item_limit)
 unfolding pick
 sizes_fine query hashes starts ends identities uppers kmer e =
-    ⊎_elim (λ (q : ltb query_limit query ≡ true). absurd (never_refused 1 (rw q at e)))
+    ⊎_elim (λ (q : ltb query_limit query ≡ true). absurd (never_refused TooLarge (rw q at e)))
     (λ (q : ltb query_limit query ≡ false).
-    ⊎_elim (λ (h : ltb item_limit hashes ≡ true). absurd (never_refused 1 (rw (q, h) at e))) (λ (h : ltb item_limit hashes ≡ false). (ltb-false query_limit query q, ltb-false item_limit hashes h)) (cases (ltb item_limit hashes))) (cases (ltb query_limit query))
+    ⊎_elim (λ (h : ltb item_limit hashes ≡ true). absurd (never_refused TooLarge (rw (q, h) at e))) (λ (h : ltb item_limit hashes ≡ false). (ltb-false query_limit query q, ltb-false item_limit hashes h)) (cases (ltb item_limit hashes))) (cases (ltb query_limit query))
 
 -- what the checks let through has its coordinates in 16 bits
 pub fine_coords : (s : Sweep) → interval_input_in s ≡ Fine → length (coords_of s) ≤ 65536
@@ -171,8 +174,8 @@ fine_coords s e =
 
 scored_of : (s : Sweep) (v : Verdict) → (v ≡ Fine → length (coords_of s) ≤ 65536) → interval_premises s ≡ true → sweep_answer_of v (interval_answer s) ≡ sweep_answer_of v (interval_by_scoring s)
 unfolding sweep_answer_of
-scored_of s Fine small premises = interval_demand_3 s premises (small refl)
-scored_of s (No r) small premises = refl
+scored_of s (Ok u) small premises = interval_demand_3 s premises (small refl)
+scored_of s (Err r) small premises = refl
 
 -- the whole call, refusals included, by scoring
 pub interval_scored_lem : (s : Sweep) (room : SweepRoom) (keys : ℕ) → interval_premises s ≡ true → interval_call s room keys ≡ sweep_answer_of (interval_verdict s room keys) (interval_by_scoring s)

@@ -14,7 +14,7 @@ use Rattle.base.specs.Pick.{pick}
 use Rattle.base.specs.Lists.{All, Asc}
 use Rattle.base.specs.Sort.{insert, sort_of}
 use Rattle.base.proofs.Lists.{all_append}
-use Rattle.base.proofs.Order.{lt_or_ge}
+use Rattle.std.proofs.lemmas.Bool.{cases_lt}
 use Rattle.base.proofs.Sort.{all_sort, asc_sort}
 use Rattle.rules.specs.Lists.{count}
 use Rattle.rules.specs.Score.{number_of}
@@ -62,14 +62,14 @@ beyond : (p at kind coord : ℕ) → kind < 2 → coord < 65536 → ltb (last_ke
 unfolding event_key
 beyond p at kind coord k c =
     ⊎_elim (λ (l : p < at). lt-ltb (last_key p) (event_key at kind coord) (omega arith) ∙ sym (lt-ltb p at l))
-    (λ (l : at ≤ p). le-ltb (last_key p) (event_key at kind coord) (omega arith) ∙ sym (le-ltb p at l)) (lt_or_ge p at)
+    (λ (l : at ≤ p). le-ltb (last_key p) (event_key at kind coord) (omega arith) ∙ sym (le-ltb p at l)) (cases_lt p at)
 
 -- ---- counting
 
 count_two : (t : ℕ → Bool) (x y : ℕ) → pick (t (min x y)) 1 0 + pick (t (max x y)) 1 0 ≡ pick (t x) 1 0 + pick (t y) 1 0
 count_two t x y =
     ⊎_elim (λ (l : x < y). let lo : min x y ≡ x = omega arith in let hi : max x y ≡ y = omega arith in rw (lo, hi))
-    (λ (l : y ≤ x). let lo : min x y ≡ y = omega arith in let hi : max x y ≡ x = omega arith in rw (lo, hi) (omega arith)) (lt_or_ge x y)
+    (λ (l : y ≤ x). let lo : min x y ≡ y = omega arith in let hi : max x y ≡ x = omega arith in rw (lo, hi) (omega arith)) (cases_lt x y)
 
 count-insert : (t : ℕ → Bool) (x : ℕ) (xs : List ℕ) → count t (insert x xs) ≡ pick (t x) 1 0 + count t xs
 unfolding insert count
@@ -213,7 +213,7 @@ module _ (s : Sweep) (coords : List ℕ) (small : length coords ≤ 65536) (c : 
       (⊎_elim (λ (l : p < i.start). rw (lt-leb i.start p l, lt-ltb p i.start l, lt-ltb s.range.start i.start (omega arith), lt-ltb p i.end (omega (arith, g.forward)), or-true) (omega arith))
       (λ (l : i.start ≤ p). rw (le-leb i.start p l, le-ltb p i.start l, and-false)
       (⊎_elim (λ (m : p < i.end). rw (lt-ltb p i.end m, or-true) (omega arith))
-      (λ (m : i.end ≤ p). rw (le-ltb p i.end m, le-ltb s.range.end i.end (omega arith)) (omega arith)) (lt_or_ge p i.end))) (lt_or_ge p i.start))
+      (λ (m : i.end ≤ p). rw (le-ltb p i.end m, le-ltb s.range.end i.end (omega arith)) (omega arith)) (cases_lt p i.end))) (cases_lt p i.start))
 
 -- ---- all events
 

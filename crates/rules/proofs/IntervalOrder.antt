@@ -15,7 +15,7 @@ use Rattle.base.specs.Pick.{pick}
 use Rattle.base.specs.Lists.{All, Asc}
 use Rattle.base.specs.Sort.{insert, sort_of}
 use Rattle.base.proofs.Lists.{all_map}
-use Rattle.base.proofs.Order.{lt_or_ge, eq_or_ne}
+use Rattle.std.proofs.lemmas.Bool.{cases_lt, cases_eq}
 use Rattle.base.proofs.Sort.{all_sort, asc_sort, insert_front}
 use Rattle.rules.specs.Script.{stepped}
 use Rattle.rules.specs.Sweep.{Sweep, Scored}
@@ -24,7 +24,7 @@ use Rattle.rules.specs.Interval.{event_at, event_kind, event_coord, events, begi
 -- two steps of one kind commute
 pub stepped_comm : (kind i j : ℕ) (ns : List ℕ) → stepped kind i (stepped kind j ns) ≡ stepped kind j (stepped kind i ns)
 unfolding stepped
-stepped_comm kind i j ns = ⊎_elim (λ (e : i ≡ j). rw e) (λ (n : i ≢ j). apart n) (eq_or_ne i j)
+stepped_comm kind i j ns = ⊎_elim (λ (e : i ≡ j). rw e) (λ (n : i ≢ j). apart n) (cases_eq i j)
   where
     to : ℕ → ℕ
     to x = pick (eqb kind 1) (x + 1) (x - 1)
@@ -58,7 +58,7 @@ module _ (s : Sweep) where
       let lo : min k y ≡ y = omega arith in
       let hi : max k y ≡ k = omega arith in
       rw (lo, hi, insert_key k ys r.1 a.1 (event_at y) (stepped (event_kind y) (event_coord y) counts)) (swap_keys from counts y k ys (omega (arith, a.0))))
-      (λ (l : k ≤ y). ap (spans_from s from counts) (insert_front k (y ∷ ys) (l, all_map (λ z. y ≤ z) (λ z. k ≤ z) (λ z m. omega arith) ys r.0) r)) (lt_or_ge y k)
+      (λ (l : k ≤ y). ap (spans_from s from counts) (insert_front k (y ∷ ys) (l, all_map (λ z. y ≤ z) (λ z. k ≤ z) (λ z m. omega arith) ys r.0) r)) (cases_lt y k)
 
   all_turns : (v : ℕ) (ks : List ℕ) → All (λ t. v ≤ t) (map turn ks) → All (λ k. v ≤ turn k) ks
   all_turns v [] a = tt

@@ -14,7 +14,7 @@ use borrow.Author.Tests.{eqb-true, eqb-false, lt-ltb, le-ltb}
 use Rattle.base.specs.Pick.{pick}
 use Rattle.base.specs.Lists.{All, Asc, StrictAsc}
 use Rattle.base.proofs.Lists.{all_map}
-use Rattle.base.proofs.Order.{lt_or_ge}
+use Rattle.std.proofs.lemmas.Bool.{cases_lt}
 use Rattle.rules.specs.Lists.{member, count, filter, up_from}
 use Rattle.rules.specs.Score.{score}
 use Rattle.rules.specs.Script.{stepped, active}
@@ -41,7 +41,7 @@ insert_beyond c k x e l =
     ⊎_elim (λ (m : k < x). rw (lt-ltb k x m))
     (λ (m : x ≤ k).
     let same : x ≡ k = omega arith in
-    rw (le-ltb k x m, same, e)) (lt_or_ge k x)
+    rw (le-ltb k x m, same, e)) (cases_lt k x)
 
 inserts_beyond : (c k : ℕ) (ks : List ℕ) → eqb (event_kind k) 1 ≡ false → All (λ x. k ≤ x) ks → count (inserts c) ks ≡ count (later k (inserts c)) ks
 unfolding count

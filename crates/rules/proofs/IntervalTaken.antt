@@ -15,7 +15,7 @@ use borrow.Author.Tests.{lt-ltb, le-ltb, le-leb, lt-leb}
 use Rattle.base.specs.Pick.{pick}
 use Rattle.base.specs.Lists.{Asc}
 use Rattle.base.proofs.Lists.{all_map}
-use Rattle.base.proofs.Order.{lt_or_ge}
+use Rattle.std.proofs.lemmas.Bool.{cases_lt}
 use Rattle.rules.specs.Lists.{filter}
 use Rattle.rules.specs.Score.{number_of}
 use Rattle.rules.specs.Sweep.{Sweep}
@@ -33,14 +33,14 @@ between_part {A} key a b (x ∷ xs) r =
     ⊎_elim (λ (l : key x < a).
     let size : number_of (key x ∷ map key xs) b - number_of (key x ∷ map key xs) a ≡ number_of (map key xs) b - number_of (map key xs) a =
     ⊎_elim (λ (m : key x < b). omega (arith, number_later (key x) b (map key xs) m, number_later (key x) a (map key xs) l))
-    (λ (m : b ≤ key x). omega (arith, number_skip (key x) b (map key xs) m, none b m)) (lt_or_ge (key x) b) in
+    (λ (m : b ≤ key x). omega (arith, number_skip (key x) b (map key xs) m, none b m)) (cases_lt (key x) b) in
     rw (size, number_later (key x) a (map key xs) l, lt-leb a (key x) l) rest)
     (λ (l : a ≤ key x).
     rw (number_skip (key x) a (map key xs) l, le-leb a (key x) l, none a l)
     (⊎_elim (λ (m : key x < b).
     rw (number_later (key x) b (map key xs) m, lt-ltb (key x) b m, sub-zero) (ap (λ (zs : List A). x ∷ zs) (rw (none a l, sub-zero) at rest)))
-    (λ (m : b ≤ key x). rw (number_skip (key x) b (map key xs) m, none b m, le-ltb (key x) b m) (rw (none a l, none b m) at rest)) (lt_or_ge (key x) b)))
-    (lt_or_ge (key x) a)
+    (λ (m : b ≤ key x). rw (number_skip (key x) b (map key xs) m, none b m, le-ltb (key x) b m) (rw (none a l, none b m) at rest)) (cases_lt (key x) b)))
+    (cases_lt (key x) a)
 
 filter_same : {A : Type 0} (t u : A → Bool) → ((x : A) → t x ≡ u x) → (xs : List A) → filter t xs ≡ filter u xs
 unfolding filter
@@ -66,7 +66,7 @@ starts_are (h ∷ hs) (p ∷ ss) (e ∷ es) l m = ap (λ (ps : List ℕ). p ∷ 
 
 le_as_lt : (a b : ℕ) → leb a b ≡ ltb a (b + 1)
 le_as_lt a b =
-    ⊎_elim (λ (l : a < b + 1). le-leb a b (omega arith) ∙ sym (lt-ltb a (b + 1) l)) (λ (l : b + 1 ≤ a). lt-leb a b (omega arith) ∙ sym (le-ltb a (b + 1) l)) (lt_or_ge a (b + 1))
+    ⊎_elim (λ (l : a < b + 1). le-leb a b (omega arith) ∙ sym (lt-ltb a (b + 1) l)) (λ (l : b + 1 ≤ a). lt-leb a b (omega arith) ∙ sym (le-ltb a (b + 1) l)) (cases_lt a (b + 1))
 
 -- where the part begins and ends
 abbrev pub taken_from : Sweep → ℕ

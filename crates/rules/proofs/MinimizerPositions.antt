@@ -10,7 +10,7 @@ use lib.Dec.{ltb}
 use borrow.Author.Tests.{lt-ltb, le-ltb}
 use Rattle.base.specs.Pick.{pick}
 use Rattle.base.specs.Lists.{Asc, StrictAsc}
-use Rattle.base.proofs.Order.{lt_or_ge}
+use Rattle.std.proofs.lemmas.Bool.{cases_lt}
 use Rattle.base.proofs.Lists.{asc_at, strict_at, strict_asc}
 use Rattle.rules.specs.Lists.{count}
 use Rattle.rules.specs.Minimizer.{Item, position, below}
@@ -25,7 +25,7 @@ lower_none q = refl
 -- the first is below q and counts, or is not and does not
 lower_step : (q x : ℕ) (xs : List ℕ) → ((x < q) × (lower q (x ∷ xs) ≡ suc (lower q xs))) ⊎ ((q ≤ x) × (lower q (x ∷ xs) ≡ lower q xs))
 unfolding count pick
-lower_step q x xs = ⊎_elim (λ h. inl (h, rw (lt-ltb x q h) (omega arith))) (λ h. inr (h, rw (le-ltb x q h) (omega arith))) (lt_or_ge x q)
+lower_step q x xs = ⊎_elim (λ h. inl (h, rw (lt-ltb x q h) (omega arith))) (λ h. inr (h, rw (le-ltb x q h) (omega arith))) (cases_lt x q)
 
 pub lower-le : (q : ℕ) (ps : List ℕ) → lower q ps ≤ length ps
 lower-le q [] = omega (arith, lower_none q)
@@ -67,7 +67,7 @@ lower_after i ps s l =
     let a = strict_asc ps s in
     let c = lower_above q i ps a l (omega arith) in
     ⊎_elim (λ (m : suc i < length ps). omega (arith, lower_least q (suc i) ps a m (omega (arith, strict_at ps s i (suc i) (omega arith) m))))
-    (λ m. omega (arith, lower-le q ps)) (lt_or_ge (suc i) (length ps))
+    (λ m. omega (arith, lower-le q ps)) (cases_lt (suc i) (length ps))
 
 -- ---- the same of items, by their positions
 
@@ -107,8 +107,8 @@ module _ (items : List Item) (asc : Asc (positions items)) (q i : ℕ) (l : i < 
 -- what a scan that stops at the first position not below q has found
 pub below_exact : (items : List Item) → Asc (positions items) → (q n : ℕ) → n ≤ length items → (0 < n → position items (n - 1) < q) → (n < length items → q ≤ position items n) → below q items ≡ n
 below_exact items asc q n l inside outside =
-    let least : n ≤ below q items = ⊎_elim (λ (h : 0 < n). omega (arith, below_above items asc q (n - 1) (omega arith) (inside h))) (λ h. omega arith) (lt_or_ge 0 n) in
-    ⊎_elim (λ (h : n < length items). omega (arith, below_least items asc q n h (outside h))) (λ h. omega (arith, below-le q items)) (lt_or_ge n (length items))
+    let least : n ≤ below q items = ⊎_elim (λ (h : 0 < n). omega (arith, below_above items asc q (n - 1) (omega arith) (inside h))) (λ h. omega arith) (cases_lt 0 n) in
+    ⊎_elim (λ (h : n < length items). omega (arith, below_least items asc q n h (outside h))) (λ h. omega (arith, below-le q items)) (cases_lt n (length items))
 
 pub below_after : (i : ℕ) (items : List Item) → StrictAsc (positions items) → i < length items → below (position items i + 1) items ≡ i + 1
 unfolding position

@@ -13,7 +13,7 @@ use lib.Dec.{ltb}
 use borrow.Author.Tests.{lt-ltb, le-ltb, le-leb, lt-leb}
 use Rattle.base.specs.Pick.{pick}
 use Rattle.base.specs.Lists.{StrictAsc}
-use Rattle.base.proofs.Order.{lt_or_ge}
+use Rattle.std.proofs.lemmas.Bool.{cases_lt}
 use Rattle.rules.specs.Lists.{filter, up_from}
 use Rattle.rules.specs.Sweep.{Sweep}
 use Rattle.rules.specs.Minimizer.{Item, Stop, windows_per_start, local_items, below, first_stop, goes_on, next_stop, stops_from, stops, admitted}
@@ -100,12 +100,12 @@ module _ (items : List Item) (w range_end : ℕ) where
 
     walk : (fuel : ℕ) (t : Stop) → At items w t → Fuelled items fuel t → Covered items w (stops_from fuel w range_end items t) (starts_from t.p)
     walk zero t a f =
-        ⊎_elim (λ (i : t.e < length items). absurd (omega (arith, fuelled_some f i))) (past_items zero t a.end) (lt_or_ge t.e (length items))
+        ⊎_elim (λ (i : t.e < length items). absurd (omega (arith, fuelled_some f i))) (past_items zero t a.end) (cases_lt t.e (length items))
     walk (suc fuel) t a f =
         ⊎_elim (λ (i : t.e < length items).
         ⊎_elim (past_end t a i (suc fuel)) (λ (b : t.p ≤ range_end). goes_on_lem t a i b fuel (walk fuel (next_stop w items t) (at_next items up w some t a i) (fuelled_next w f (at_moves items up w some t a i))))
-        (lt_or_ge range_end t.p))
-        (past_items (suc fuel) t a.end) (lt_or_ge t.e (length items))
+        (cases_lt range_end t.p))
+        (past_items (suc fuel) t a.end) (cases_lt t.e (length items))
 
 -- a start's active items are constant between stops, and the stops and what lies between them are all the admitted starts
 pub stops_cover : (s : Sweep) → StrictAsc (positions (local_items s)) → 0 < windows_per_start s → Covered (local_items s) (windows_per_start s) (stops s) (admitted s)
@@ -115,4 +115,4 @@ stops_cover s up some =
     let w = windows_per_start s in
     let end = s.range.end in
     ⊎_elim (λ (h : 0 < length items). walk items w end up some _ (first_stop w items) (at_first items up w some h) (fuelled_first w _ items h (omega arith)))
-    (λ (h : length items ≤ 0). past_items items w end _ (first_stop w items) refl (omega arith)) (lt_or_ge 0 (length items))
+    (λ (h : length items ≤ 0). past_items items w end _ (first_stop w items) refl (omega arith)) (cases_lt 0 (length items))

@@ -12,7 +12,7 @@ use lib.Dec.{eqb}
 use borrow.Author.Tests.{ltb-true, eq-eqb, eqb-true}
 use Rattle.base.specs.Pick.{pick}
 use Rattle.base.specs.Lists.{All}
-use Rattle.base.proofs.Order.{lt_or_ge}
+use Rattle.std.proofs.lemmas.Bool.{cases_lt}
 use Rattle.rules.specs.Sweep.{Sweep, Scored, best}
 use Rattle.rules.specs.Minimizer.{Item, Stop, position, to_begin, to_end, first_stop, goes_on, next_stop, moves, stops_from, stops, local_items, score_items, scored_stop, scored_stops}
 use Rattle.rules.proofs.Score.{score_most}
@@ -40,7 +40,7 @@ module _ (w : ℕ) (items : List Item) (t : Stop) where
   next_further =
       let f = to_begin items t in
       let g = to_end w items t in
-      ⊎_elim (λ (l : f < g). rw (eq-eqb (min f g) f (omega arith)) (omega arith)) (λ (l : g ≤ f). rw (eq-eqb (min f g) g (omega arith)) (omega arith)) (lt_or_ge f g)
+      ⊎_elim (λ (l : f < g). rw (eq-eqb (min f g) f (omega arith)) (omega arith)) (λ (l : g ≤ f). rw (eq-eqb (min f g) g (omega arith)) (omega arith)) (cases_lt f g)
 
   -- past the last item lies no position to go to
   begin_inside : 0 < to_begin items t → t.b + 1 < length items
@@ -49,7 +49,7 @@ module _ (w : ℕ) (items : List Item) (t : Stop) where
       ⊎_elim (λ (l : t.b + 1 < length items). l)
       (λ (l : length items ≤ t.b + 1).
       let k : length (positions items) ≤ t.b + 1 = omega (arith, length-map items (λ (x : Item). x.at)) in
-      absurd (omega (arith, get_or-eq_default (positions items) 0 k))) (lt_or_ge (t.b + 1) (length items))
+      absurd (omega (arith, get_or-eq_default (positions items) 0 k))) (cases_lt (t.b + 1) (length items))
 
   next_inside : moves w items t ≡ true → t.b < length items → (next_stop w items t).b < length items
   unfolding moves next_stop pick

@@ -13,7 +13,7 @@ use lib.Dec.{eqb}
 use borrow.Author.Tests.{lt-ltb, eqb-true, eqb-false}
 use Rattle.base.specs.Pick.{pick}
 use Rattle.base.specs.Lists.{StrictAsc}
-use Rattle.base.proofs.Order.{lt_or_ge}
+use Rattle.std.proofs.lemmas.Bool.{cases_lt}
 use Rattle.base.proofs.Lists.{strict_asc}
 use Rattle.rules.specs.Minimizer.{Item, Stop, position, below, to_begin, to_end, first_stop, next_stop, moves}
 use Rattle.rules.proofs.MinimizerPositions.{positions, below-le, below_mono, below_least, below_above, below_after}
@@ -23,13 +23,13 @@ module _ (items : List Item) (up : StrictAsc (positions items)) where
   beyond : (q i : ℕ) → i < length items → below q items ≤ i → q ≤ position items i
   beyond q i l h =
       ⊎_elim (λ (c : position items i < q). absurd (omega (arith, below_above items (strict_asc (positions items) up) q i l c))) (λ c. c)
-      (lt_or_ge (position items i) q)
+      (cases_lt (position items i) q)
 
   -- as long as item i is not passed
   still : (q r i : ℕ) → below q items ≡ i → q ≤ r → (i < length items → r ≤ position items i) → below r items ≡ i
   still q r i e l h =
       let m = below_mono q r items l in
-      ⊎_elim (λ (a : i < length items). omega (arith, below_least items (strict_asc (positions items) up) r i a (h a))) (λ a. omega (arith, below-le r items)) (lt_or_ge i (length items))
+      ⊎_elim (λ (a : i < length items). omega (arith, below_least items (strict_asc (positions items) up) r i a (h a))) (λ a. omega (arith, below-le r items)) (cases_lt i (length items))
 
   -- d on from q, item i being t on at most: it is taken in exactly when d is all of t
   advance : (q i d t r : ℕ) → i < length items → below q items ≡ i → q + t ≡ position items i + 1 → d ≤ t → r ≡ q + d → below r items ≡ i + pick (eqb d t) 1 0

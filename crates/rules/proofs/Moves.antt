@@ -15,7 +15,7 @@ use Rattle.base.specs.Pick.{pick}
 use Rattle.base.specs.Nearest.{LastBelow, NoneBelow, FirstFrom}
 use Rattle.base.specs.Counting.{Same, Bump}
 use Rattle.base.proofs.Checks.{pick-le}
-use Rattle.base.proofs.Order.{lt_or_ge}
+use Rattle.std.proofs.lemmas.Bool.{cases_lt}
 use Rattle.base.proofs.Nearest.{last_same, first_same}
 use Rattle.base.proofs.Counting.{count_next}
 use Rattle.rules.specs.Moves.{Slide, in_query, is_active, in_union, is_shared, before, first_from, after, insert_shared, insert_other, insert_ref, delete_shared, delete_other, delete_ref, moved}
@@ -85,7 +85,7 @@ before_last test zero some = absurd (some (λ j l. absurd (omega arith)))
 before_last test (suc p) some = go (before_last test p) (test p) refl
   where
     none_more : NoneBelow (set_of test) p → set_of test p ≡ 0 → NoneBelow (set_of test) (suc p)
-    none_more none e j l = ⊎_elim (λ (m : j < p). none j m) (λ (m : p ≤ j). let q : p ≡ j = omega arith in subst (λ (n : ℕ). set_of test n ≡ 0) q e) (lt_or_ge j p)
+    none_more none e j l = ⊎_elim (λ (m : j < p). none j m) (λ (m : p ≤ j). let q : p ≡ j = omega arith in subst (λ (n : ℕ). set_of test n ≡ 0) q e) (cases_lt j p)
 
     go : ((NoneBelow (set_of test) p → ⊥) → LastBelow (set_of test) p (before test p)) → (b : Bool) → test p ≡ b → LastBelow (set_of test) (suc p) (pick b p (before test p))
     go rest true e = record { below = omega arith; on = rw e; off = λ j l m. absurd (omega arith) }
@@ -95,7 +95,7 @@ before_last test (suc p) some = go (before_last test p) (test p) refl
         record {
           below = omega (arith, r.below);
           on = r.on;
-          off = λ j l m. ⊎_elim (λ (x : j < p). r.off j l x) (λ (x : p ≤ j). let q : p ≡ j = omega arith in subst (λ (n : ℕ). set_of test n ≡ 0) q zero_here) (lt_or_ge j p);
+          off = λ j l m. ⊎_elim (λ (x : j < p). r.off j l x) (λ (x : p ≤ j). let q : p ≡ j = omega arith in subst (λ (n : ℕ). set_of test n ≡ 0) q zero_here) (cases_lt j p);
         }
 
 first_first : (test : ℕ → Bool) (s n : ℕ) → (((j : ℕ) → s ≤ j → j < s + n → set_of test j ≡ 0) → ⊥) → FirstFrom (set_of test) s (first_from test s n)
@@ -111,11 +111,11 @@ first_first test s (suc n) some = go (first_first test (s + 1) n) (test s) refl
         let here : (j : ℕ) → s ≤ j → j ≤ s → set_of test j ≡ 0 = λ j l m. let q : s ≡ j = omega arith in subst (λ (x : ℕ). set_of test x ≡ 0) q zero_here in
         let r =
         rest
-        (λ none. some (λ j l m. ⊎_elim (λ (x : s < j). none j (omega arith) (omega arith)) (λ (x : j ≤ s). here j l x) (lt_or_ge s j))) in
+        (λ none. some (λ j l m. ⊎_elim (λ (x : s < j). none j (omega arith) (omega arith)) (λ (x : j ≤ s). here j l x) (cases_lt s j))) in
         record {
           from = omega (arith, r.from);
           on = r.on;
-          off = λ j l m. ⊎_elim (λ (x : s < j). r.off j (omega arith) m) (λ (x : j ≤ s). here j l x) (lt_or_ge s j);
+          off = λ j l m. ⊎_elim (λ (x : s < j). r.off j (omega arith) m) (λ (x : j ≤ s). here j l x) (cases_lt s j);
         }
 
 pub after_first : (test : ℕ → Bool) (p n : ℕ) → p < n → (((j : ℕ) → p + 1 ≤ j → j < n → set_of test j ≡ 0) → ⊥) → FirstFrom (set_of test) (p + 1) (after test p n)
@@ -176,7 +176,7 @@ pub pivot_in : (ms : List Bool) (s : Slide) → Slid ms s → s.pivot < length m
 pivot_in ms s k =
     ⊎_elim (λ (l : s.pivot < length ms). l)
     (λ (l : length ms ≤ s.pivot). absurd (omega (arith, mark_past ms s.pivot l, has_past s.counts s.pivot (omega (arith, k.lens)), k.at.on)))
-    (lt_or_ge s.pivot (length ms))
+    (cases_lt s.pivot (length ms))
 
 mark-true : (ms : List Bool) (i : ℕ) → in_query ms i ≡ true → mark ms i ≡ 1
 unfolding mark in_query pick
@@ -252,7 +252,7 @@ module _ (ms : List Bool) (s : Slide) (k : Slid ms s) (i : ℕ) (l : i < length 
       apart m =
           ⊎_elim (λ (x : i < s.pivot). x)
           (λ (x : s.pivot ≤ i). let q : s.pivot ≡ i = omega arith in absurd (omega (arith, subst (λ (n : ℕ). u ms s.counts n ≡ 1) q k.at.on, mark-false ms i y, off)))
-          (lt_or_ge i s.pivot)
+          (cases_lt i s.pivot)
 
       -- the Rust's `expect`: the pivot has a predecessor
       pub insert_some : i ≤ s.pivot → NoneBelow (set_of (in_union ms raised)) s.pivot → ⊥
@@ -360,7 +360,7 @@ module _ (ms : List Bool) (s : Slide) (k : Slid ms s) (i : ℕ) (l : i < length 
       delete_some low none =
           up_some (u ms s.counts) (u ms lowered) (h ms s.counts) (h ms lowered) i (size ms) s.pivot s.shared still_out k.at (under ms lowered) less_out low
           (mark ms) (length ms) (λ j. omega arith) (pivot_in ms s k) refl
-          (λ j m. ⊎_elim (λ (x : j < length lowered). sym (union_bit ms lowered j) ∙ none j m x) (λ (x : length lowered ≤ j). beyond j x) (lt_or_ge j (length lowered)))
+          (λ j m. ⊎_elim (λ (x : j < length lowered). sym (union_bit ms lowered j) ∙ none j m x) (λ (x : length lowered ≤ j). beyond j x) (cases_lt j (length lowered)))
 
       delete_other_slid : Slid ms (delete_other ms i lowered s)
       unfolding delete_other pick

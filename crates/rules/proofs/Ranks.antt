@@ -8,7 +8,7 @@ use native.Mathlib.Omega.{arith}
 use native.Mathlib.Nat.{eq-or-lt_of_le}
 use Rattle.base.specs.Nearest.{LastBelow, NoneBelow, FirstFrom, NoneFrom}
 use Rattle.base.specs.Counting.{count, Same, Bump}
-use Rattle.base.proofs.Order.{lt_or_ge}
+use Rattle.std.proofs.lemmas.Bool.{cases_lt}
 use Rattle.base.proofs.Counting.{count-zero, count_next, count_same, count-le, count_none, count_up, bump_out, bump_in}
 use Rattle.rules.specs.Ranks.{either, both, PivotAt}
 
@@ -112,7 +112,7 @@ pivot_only u h k p s r t a b =
     ⊎_elim (λ (l : p < r). absurd (omega (arith, count_up u (p + 1) r (omega arith), count_next u p, a.on, a.rank, b.rank)))
     (λ (l : r ≤ p). ⊎_elim (λ (e : r ≡ p). sym e)
     (λ (m : r < p). absurd (omega (arith, count_up u (r + 1) p (omega arith), count_next u r, b.on, a.rank, b.rank))) (eq-or-lt_of_le l))
-    (lt_or_ge p r)
+    (cases_lt p r)
 
 pub shared_only : (u h : ℕ → ℕ) (k p s r t : ℕ) → PivotAt u h k p s → PivotAt u h k r t → s ≡ t
 shared_only u h k p s r t a b = sym a.shared ∙ ap (λ (n : ℕ). count h (n + 1)) (pivot_only u h k p s r t a b) ∙ b.shared

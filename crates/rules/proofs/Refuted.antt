@@ -8,13 +8,13 @@ use native.Mathlib.Omega.{arith}
 use lib.Ieee.{Float}
 use lib.ListN.{length, take, drop, get_or, replicate}
 use Rattle.base.specs.Buffers.{over}
-use Rattle.base.specs.declared.Verdict.TheVariants.{Fine}
+use Rattle.base.specs.Verdicts.{Fine}
 use Rattle.base.specs.declared.Refusal.{Refusal}
 use Rattle.base.specs.declared.Place.{Place}
 use Rattle.base.specs.declared.Stats.{Stats}
-use Rattle.base.specs.declared.SweepAnswer.{SweepAnswer}
-use Rattle.base.specs.declared.ScriptAnswer.{ScriptAnswer}
-use Rattle.base.specs.declared.FinderAnswer.{FinderAnswer}
+use Rattle.base.specs.Answers.{SweepAnswer, nothing, placed, listed}
+use Rattle.base.specs.Answers.{ScriptAnswer}
+use Rattle.base.specs.Answers.{FinderAnswer}
 use Rattle.base.proofs.Buffers.{zeroed_in}
 use Rattle.rules.specs.Checks.{ceil64}
 use Rattle.rules.specs.Refusals.{work_left}
@@ -28,6 +28,7 @@ use Rattle.rules.specs.Computes.{computes}
 use Rattle.rules.specs.Examples.{script_a, case_b, case_d, finder_of, job_b2}
 use Rattle.rules.specs.Edges.{sweep_with}
 use Rattle.rules.specs.JobEdges.{job_to, job_with}
+use Rattle.std.specs.Prelude.{Err}
 
 -- how many values an answer tells, and the value at i
 abbrev pub size : Told → ℕ
@@ -70,22 +71,22 @@ row_k =
     record { contigs = f.contigs; starts = f.starts; ends = f.ends; groups = f.groups; threshold = f.threshold; minimum = f.minimum; length = 0 }
 
 -- Either sweep, where it is to tell t. A place tells seven values: no refusal does,
-pub sweep_refuses : (x : Refusal) {t : Told} → told_sweep (SweepAnswer.Refused x) ≡ t → size t ≡ 7 → ⊥
+pub sweep_refuses : (x : Refusal) {t : Told} → told_sweep (Err x) ≡ t → size t ≡ 7 → ⊥
 unfolding told_sweep told_refused
 sweep_refuses x says seven = omega (arith, ap size says)
 
 -- and no none
-pub sweep_says_none : (s : Stats) {t : Told} → told_sweep (SweepAnswer.Nothing s) ≡ t → size t ≡ 7 → ⊥
+pub sweep_says_none : (s : Stats) {t : Told} → told_sweep (nothing s) ≡ t → size t ≡ 7 → ⊥
 unfolding told_sweep told_done
 sweep_says_none s says seven = omega (arith, ap size says)
 
 -- a place tells one start, whatever its counts
-pub sweep_one_place : (x : Place) (s u : Stats) {t t₂ : Told} → told_sweep (SweepAnswer.Placed x s) ≡ t → told_sweep (SweepAnswer.Placed x u) ≡ t₂ → value 0 t ≡ value 0 t₂
+pub sweep_one_place : (x : Place) (s u : Stats) {t t₂ : Told} → told_sweep (placed x s) ≡ t → told_sweep (placed x u) ≡ t₂ → value 0 t ≡ value 0 t₂
 unfolding told_sweep told_done
 sweep_one_place x s u says says₂ = sym (ap (value 0) says) ∙ ap (value 0) says₂
 
 -- and its counts are told last
-pub sweep_counts : (x : Place) (s : Stats) {t : Told} → told_sweep (SweepAnswer.Placed x s) ≡ t → (s.windows ≡ value 4 t) × (s.coords ≡ value 5 t) × (s.items ≡ value 6 t)
+pub sweep_counts : (x : Place) (s : Stats) {t : Told} → told_sweep (placed x s) ≡ t → (s.windows ≡ value 4 t) × (s.coords ≡ value 5 t) × (s.items ≡ value 6 t)
 unfolding told_sweep told_done
 sweep_counts x s says = (ap (value 4) says, ap (value 5) says, ap (value 6) says)
 
@@ -110,17 +111,17 @@ sweep_unzeroed n left (words_kept kept) = work_unzeroed (ceil64 (suc n)) _ left.
 sweep_unzeroed n left (summary_kept kept) = work_unzeroed (ceil64 (ceil64 (suc n))) _ left.summary (omega arith) refl kept
 
 -- The minimizer sweep: one that refuses all,
-pub minimizer_refuses_all : (x : Refusal) (after : SweepLent) → MinimizerPromise (case_b 11) (SweepAnswer.Refused x) ones_b after → ⊥
+pub minimizer_refuses_all : (x : Refusal) (after : SweepLent) → MinimizerPromise (case_b 11) (Err x) ones_b after → ⊥
 unfolding computes
 minimizer_refuses_all x after p = sweep_refuses x p.answer refl
 
 -- one that says none always,
-pub minimizer_none_always : (s : Stats) (after : SweepLent) → MinimizerPromise (case_b 11) (SweepAnswer.Nothing s) ones_b after → ⊥
+pub minimizer_none_always : (s : Stats) (after : SweepLent) → MinimizerPromise (case_b 11) (nothing s) ones_b after → ⊥
 unfolding computes
 minimizer_none_always s after p = sweep_says_none s p.answer refl
 
 -- one that gives one fixed place,
-pub minimizer_one_place : (x : Place) (s u : Stats) (a b : SweepLent) → MinimizerPromise (case_b 10) (SweepAnswer.Placed x s) ones_b a → MinimizerPromise (case_b 11) (SweepAnswer.Placed x u) ones_b b → ⊥
+pub minimizer_one_place : (x : Place) (s u : Stats) (a b : SweepLent) → MinimizerPromise (case_b 10) (placed x s) ones_b a → MinimizerPromise (case_b 11) (placed x u) ones_b b → ⊥
 unfolding computes
 minimizer_one_place x s u a b p q = let e : ◌≡◌ {A = ℕ} 0 8 = sweep_one_place x s u p.answer q.answer in omega (arith, e)
 
@@ -130,17 +131,17 @@ unfolding computes
 minimizer_does_nothing r p = sweep_unzeroed 6 p.left (hashes_kept refl)
 
 -- made-up windows, coordinates or items
-pub minimizer_made_up : (x : Place) (s : Stats) (after : SweepLent) → MinimizerPromise (case_b 11) (SweepAnswer.Placed x s) ones_b after → (s.windows ≡ 5) × (s.coords ≡ 4) × (s.items ≡ 5)
+pub minimizer_made_up : (x : Place) (s : Stats) (after : SweepLent) → MinimizerPromise (case_b 11) (placed x s) ones_b after → (s.windows ≡ 5) × (s.coords ≡ 4) × (s.items ≡ 5)
 unfolding computes
 minimizer_made_up x s after p = sweep_counts x s p.answer
 
 -- The interval sweep: one that refuses all,
-pub interval_refuses_all : (x : Refusal) (after : SweepLent) (keys : List ℕ) → IntervalPromise (asked case_d) (SweepAnswer.Refused x) ones_d after (replicate 6 1) keys → ⊥
+pub interval_refuses_all : (x : Refusal) (after : SweepLent) (keys : List ℕ) → IntervalPromise (asked case_d) (Err x) ones_d after (replicate 6 1) keys → ⊥
 unfolding computes
 interval_refuses_all x after keys p = sweep_refuses x p.answer refl
 
 -- one that says none always,
-pub interval_none_always : (s : Stats) (after : SweepLent) (keys : List ℕ) → IntervalPromise (asked case_d) (SweepAnswer.Nothing s) ones_d after (replicate 6 1) keys → ⊥
+pub interval_none_always : (s : Stats) (after : SweepLent) (keys : List ℕ) → IntervalPromise (asked case_d) (nothing s) ones_d after (replicate 6 1) keys → ⊥
 unfolding computes
 interval_none_always s after keys p = sweep_says_none s p.answer refl
 
@@ -150,12 +151,12 @@ unfolding computes
 interval_does_nothing r p = sweep_unzeroed 4 p.left (hashes_kept refl)
 
 -- made-up windows, coordinates or items
-pub interval_made_up : (x : Place) (s : Stats) (after : SweepLent) (keys : List ℕ) → IntervalPromise (asked case_d) (SweepAnswer.Placed x s) ones_d after (replicate 6 1) keys → (s.windows ≡ 9) × (s.coords ≡ 3) × (s.items ≡ 3)
+pub interval_made_up : (x : Place) (s : Stats) (after : SweepLent) (keys : List ℕ) → IntervalPromise (asked case_d) (placed x s) ones_d after (replicate 6 1) keys → (s.windows ≡ 9) × (s.coords ≡ 3) × (s.items ≡ 3)
 unfolding computes
 interval_made_up x s after keys p = sweep_counts x s p.answer
 
 -- The script: one that refuses all,
-pub script_refuses_all : (x : Refusal) (after : ScriptLent) → ScriptPromise script_a (ScriptAnswer.Refused x) ones_a after → ⊥
+pub script_refuses_all : (x : Refusal) (after : ScriptLent) → ScriptPromise script_a (Err x) ones_a after → ⊥
 unfolding computes
 script_refuses_all x after p = let e : ◌≡◌ {A = ℕ} 0 2 = ap size p.answer in omega (arith, e)
 
@@ -171,16 +172,16 @@ script_repeats_first r after same p =
     let e : ◌≡◌ {A = ℕ} 3 1 = ap (λ xs. get_or xs 1 0) (sym same ∙ p.left.pivots) in omega (arith, e)
 
 -- The finders: one that refuses all,
-pub finder_refuses_all : (x : Refusal) (after : FinderLent) → MinimizerFinderPromise row_h (FinderAnswer.Refused x) ones_hits after → ⊥
+pub finder_refuses_all : (x : Refusal) (after : FinderLent) → MinimizerFinderPromise row_h (Err x) ones_hits after → ⊥
 unfolding computes
 finder_refuses_all x after p = let e : ◌≡◌ {A = ℕ} 0 2 = ap size p.answer in omega (arith, e)
 
 -- one that lists nothing,
-pub finder_lists_nothing : (hits : ℕ) (after : FinderLent) → MinimizerFinderPromise row_h (FinderAnswer.Listed 0 hits) ones_hits after → ⊥
+pub finder_lists_nothing : (hits : ℕ) (after : FinderLent) → MinimizerFinderPromise row_h (listed 0 hits) ones_hits after → ⊥
 unfolding computes
 finder_lists_nothing hits after p = let e : ◌≡◌ {A = ℕ} 0 2 = ap (value 0) p.answer in omega (arith, e)
 
-pub interval_finder_lists_nothing : (hits : ℕ) (after : FinderLent) (end_keys : List ℕ) → IntervalFinderPromise row_k (FinderAnswer.Listed 0 hits) ones_hits after (replicate 3 1) end_keys → ⊥
+pub interval_finder_lists_nothing : (hits : ℕ) (after : FinderLent) (end_keys : List ℕ) → IntervalFinderPromise row_k (listed 0 hits) ones_hits after (replicate 3 1) end_keys → ⊥
 unfolding computes
 interval_finder_lists_nothing hits after end_keys p = let e : ◌≡◌ {A = ℕ} 0 1 = ap (value 0) p.answer in omega (arith, e)
 

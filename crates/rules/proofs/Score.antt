@@ -16,7 +16,7 @@ use Rattle.base.specs.Pick.{pick}
 use Rattle.base.specs.Lists.{All, StrictAsc, times}
 use Rattle.base.specs.Sort.{sort_of}
 use Rattle.base.proofs.Lists.{all_map, hit_same, hit_other}
-use Rattle.base.proofs.Order.{eq_or_ne, lt_or_ge}
+use Rattle.std.proofs.lemmas.Bool.{cases_eq, cases_lt}
 use Rattle.base.proofs.Sort.{times_sort, strict_unique}
 use Rattle.rules.specs.Lists.{member, count, filter}
 use Rattle.rules.specs.Score.{add, ascending, union, in_both, score, number_of, pivot_hash}
@@ -62,7 +62,7 @@ unfolding member times
 member-times h [] = refl
 member-times h (x ∷ xs) =
     ⊎_elim (λ (e : h ≡ x). rw (← e, eq-eqb h h refl, hit_same h) (sym (lt-ltb 0 (1 + times h xs) (omega arith))))
-    (λ (n : h ≢ x). rw (ne_eqb h x n, hit_other h x n, zero-add) (member-times h xs)) (eq_or_ne h x)
+    (λ (n : h ≢ x). rw (ne_eqb h x n, hit_other h x n, zero-add) (member-times h xs)) (cases_eq h x)
 
 -- sorting keeps the members
 pub member_sort : (h : ℕ) (xs : List ℕ) → member h (sort_of xs) ≡ member h xs
@@ -288,7 +288,7 @@ number_up (c ∷ cs) g h l =
     let rest = number_up cs g h l in
     ⊎_elim (λ (a : c < g). omega (arith, number_later c g cs a, number_later c h cs (omega arith)))
     (λ (a : g ≤ c).
-    ⊎_elim (λ (b : c < h). omega (arith, number_skip c g cs a, number_later c h cs b)) (λ (b : h ≤ c). omega (arith, number_skip c g cs a, number_skip c h cs b)) (lt_or_ge c h)) (lt_or_ge c g)
+    ⊎_elim (λ (b : c < h). omega (arith, number_skip c g cs a, number_later c h cs b)) (λ (b : h ≤ c). omega (arith, number_skip c g cs a, number_skip c h cs b)) (cases_lt c h)) (cases_lt c g)
 
 pub number_most : (cs : List ℕ) (h : ℕ) → number_of cs h ≤ length cs
 unfolding number_of

@@ -13,7 +13,7 @@ use lib.ListN.{length, get_or, take, length-map}
 use borrow.Author.Tests.{eq-eqb, ne_eqb}
 use Rattle.base.specs.Pick.{pick}
 use Rattle.base.specs.Counting.{count}
-use Rattle.base.proofs.Order.{lt_or_ge}
+use Rattle.std.proofs.lemmas.Bool.{cases_lt}
 use Rattle.base.proofs.Counting.{count-zero, count_next, count_below, count_none, count-le}
 use Rattle.rules.specs.Lists.{member}
 use Rattle.rules.specs.Lists.{count as howMany}
@@ -178,7 +178,7 @@ rank_some f small (suc n) k pos l =
     last = rw (← add-one n) (count_next f n)
 
     split : (a b : ℕ) → (a ≤ b) ⊎ (b < a)
-    split a b = ⊎_elim (λ (m : b < a). inr m) (λ (m : a ≤ b). inl m) (lt_or_ge b a)
+    split a b = ⊎_elim (λ (m : b < a). inr m) (λ (m : a ≤ b). inl m) (cases_lt b a)
 
 or_elim : (a b c : Bool) → (a ≡ true → c ≡ true) → (b ≡ true → c ≡ true) → (a || b) ≡ true → c ≡ true
 or_elim true b c f g m = f refl
@@ -246,7 +246,7 @@ module _ (query coords counts : List ℕ) (rq : StrictAsc query) (rc : StrictAsc
     inside : p < length coords
     inside =
         ⊎_elim (λ (l : p < length coords). l)
-        (λ (l : length coords ≤ p). absurd (omega (arith, a.on, mark_past ms p (omega (arith, length-ms)), has_past counts p (omega arith)))) (lt_or_ge p (length coords))
+        (λ (l : length coords ≤ p). absurd (omega (arith, a.on, mark_past ms p (omega (arith, length-ms)), has_past counts p (omega arith)))) (cases_lt p (length coords))
 
     below_us : (n : ℕ) → n ≤ length coords → count (mark us) n ≡ count (either (mark ms) (has counts)) n
     below_us n l = count_below (either (mark ms) (has counts)) (mark us) n (λ j m. mark-us j (omega arith))

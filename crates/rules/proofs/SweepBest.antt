@@ -12,7 +12,7 @@ use lib.Dec.{ltb, eqb}
 use borrow.Author.Tests.{ltb-true, ltb-false, eqb-true, eqb-false}
 use Rattle.base.specs.Pick.{pick}
 use Rattle.base.specs.declared.Best.{Best}
-use Rattle.base.proofs.Order.{lt_or_ge}
+use Rattle.std.proofs.lemmas.Bool.{cases_lt}
 use Rattle.rules.specs.Sweep.{Scored, base, better, best_from, best}
 use Rattle.rules.proofs.Sweep.{scored}
 
@@ -66,7 +66,7 @@ module _ (xs : List Scored) (x : Scored) where
   module _ (c : Best) where
     keep_greatest : (b : Best) → ((i : ℕ) → i < length xs → (at xs i).score ≤ b.shared) → b.shared ≤ c.shared → x.score ≤ c.shared → (i : ℕ) → i < length more → (at more i).score ≤ c.shared
     keep_greatest b h m n i l =
-        ⊎_elim (λ (k : i < length xs). omega (arith, h i k, score_before i k)) (λ (k : length xs ≤ i). omega (arith, score_here i k l)) (lt_or_ge i (length xs))
+        ⊎_elim (λ (k : i < length xs). omega (arith, h i k, score_before i k)) (λ (k : length xs ≤ i). omega (arith, score_here i k l)) (cases_lt i (length xs))
 
     keep_earliest : (b : Best) (i : ℕ) → Earliest xs b i → c.shared ≡ b.shared → c.first ≡ b.first → Earliest more c i
     keep_earliest b i e m n = record {
@@ -81,7 +81,7 @@ module _ (xs : List Scored) (x : Scored) where
       inside = omega (arith, e.inside, more-length);
       has = score_before i e.inside ∙ e.has ∙ sym m;
       last = n ∙ e.last ∙ rw (before i e.inside);
-      less = λ j l k. ⊎_elim (λ (d : j < length xs). omega (arith, e.less j l d, score_before j d)) (λ (d : length xs ≤ j). omega (arith, score_here j d k)) (lt_or_ge j (length xs));
+      less = λ j l k. ⊎_elim (λ (d : j < length xs). omega (arith, e.less j l d, score_before j d)) (λ (d : length xs ≤ j). omega (arith, score_here j d k)) (cases_lt j (length xs));
     }
 
     new_earliest : ((i : ℕ) → i < length xs → (at xs i).score < c.shared) → c.shared ≡ x.score → c.first ≡ base x.first → Earliest more c (length xs)
@@ -160,10 +160,10 @@ module _ (xs : List Scored) where
 
   module _ (b c : Best) (same : b.shared ≡ c.shared) (i j : ℕ) where
     earliest_le : Earliest xs b i → Earliest xs c j → j ≤ i
-    earliest_le h k = ⊎_elim (λ (l : i < j). absurd (omega (arith, h.has, k.less i l))) (λ (l : j ≤ i). l) (lt_or_ge i j)
+    earliest_le h k = ⊎_elim (λ (l : i < j). absurd (omega (arith, h.has, k.less i l))) (λ (l : j ≤ i). l) (cases_lt i j)
 
     latest_le : Latest xs b i → Latest xs c j → i ≤ j
-    latest_le h k = ⊎_elim (λ (l : j < i). absurd (omega (arith, h.has, k.less i l h.inside))) (λ (l : i ≤ j). l) (lt_or_ge j i)
+    latest_le h k = ⊎_elim (λ (l : j < i). absurd (omega (arith, h.has, k.less i l h.inside))) (λ (l : i ≤ j). l) (cases_lt j i)
 
 pub best_unique : (xs : List Scored) (b c : Best) → IsBest xs b → IsBest xs c → b ≡ c
 best_unique xs b c h k = λ d. record { shared = same d; first = first d; last = last d }

@@ -2,20 +2,22 @@
 use Rattle.std.specs.Prelude.{ℕ, ◌≡◌, refl, true, false, List, [], ◌∷◌, map, length, replicate, Float}
 use Rattle.std.specs.Float.{binary64, nan}
 use Rattle.std.specs.Float.Ieee.{of_bits}
-use Rattle.base.specs.declared.Verdict.{Verdict}
-use Rattle.base.specs.declared.Verdict.TheVariants.{Fine}
+use Rattle.base.specs.Verdicts.{Verdict}
+use Rattle.base.specs.Verdicts.{Fine}
 use Rattle.rules.specs.Script.{Script, looks}
 use Rattle.rules.specs.Moves.{looks_by_moves}
 use Rattle.rules.specs.Sweep.{Sweep}
 use Rattle.rules.specs.Place.{minimizer_answer, minimizer_by_scoring, interval_answer, interval_by_scoring}
 use Rattle.rules.specs.Finder.{Finder, seed_hits, minimizer_found, interval_found}
-use Rattle.base.specs.Verdicts.{refuse}
+use Rattle.base.specs.Verdicts.{Verdict, Fine, refuse}
 use Rattle.rules.specs.Checks.{minimizer_sizes, interval_sizes, sweep_orders, sweep_table, sweep_needs, keys_need, script_sizes, script_orders, script_members, script_needs, minimizer_finder_sizes, minimizer_finder_lengths, interval_finder_sizes, interval_finder_lengths, finder_needs, end_keys_need}
 use Rattle.rules.specs.Refusals.{SweepRoom, ScriptRoom, FinderRoom, minimizer_call, interval_call, script_call, minimizer_finder_call, interval_finder_call, work_left, output_left}
 use Rattle.rules.specs.Told.{told_done, told_sweep, told_script, told_finder, told_looks, told_candidates}
 use Rattle.rules.specs.Calls.{minimizer_premises, interval_premises}
 use Rattle.rules.specs.Computes.{computes}
 use Rattle.rules.specs.Examples.{Row, says, list, placed, nothing, refused, script_a, empty_script, f0, f50, f100, sweep_of, case_b, case_c, case_d, case_e, case_f, case_g}
+use Rattle.base.specs.declared.Reason.TheVariants.{ShortBuffer, TooLarge, BadSetting, UnequalLengths, QueryOrder, ItemOrder, NotMember, ShortTable}
+use Rattle.base.specs.declared.Reason.{Reason}
 
 -- the paper's sweep with another fragment, query and table
 abbrev pub sweep_with : (kmer window length : ℕ) (query hashes starts ends : List ℕ) (from to : ℕ) (identities uppers : List Float) (minimum : Float) → Sweep
@@ -133,8 +135,8 @@ pub record Judged : Type 0 where
 abbrev pub fine : Verdict → Judged
 fine v = record { given = v; wanted = Fine }
 
-abbrev pub refuses : Verdict → ℕ → ℕ → Judged
-refuses v number place = record { given = v; wanted = refuse number place }
+abbrev pub refuses : Verdict → Reason → ℕ → Judged
+refuses v reason place = record { given = v; wanted = refuse reason place }
 
 -- Each check by itself: at its limit, one past it; at its need, one short.
 pub checks : List Judged
@@ -142,107 +144,107 @@ checks =
     -- the minimizer sweep, 1 to 3
     fine (minimizer_sizes 4096 61440 61440 1 1 1 1) ∷
     fine (minimizer_sizes 0 0 0 0 0 1 1) ∷
-    refuses (minimizer_sizes 4097 0 0 1 1 1 1) 1 0 ∷
-    refuses (minimizer_sizes 0 61441 61440 1 1 1 1) 1 0 ∷
-    refuses (minimizer_sizes 0 61440 61441 1 1 1 1) 1 0 ∷
-    refuses (minimizer_sizes 0 1 2 1 2 0 1) 2 0 ∷
-    refuses (minimizer_sizes 0 1 2 1 2 1 0) 2 0 ∷
-    refuses (minimizer_sizes 0 1 2 1 1 1 1) 3 0 ∷
-    refuses (minimizer_sizes 0 1 1 1 2 1 1) 3 0 ∷
+    refuses (minimizer_sizes 4097 0 0 1 1 1 1) TooLarge 0 ∷
+    refuses (minimizer_sizes 0 61441 61440 1 1 1 1) TooLarge 0 ∷
+    refuses (minimizer_sizes 0 61440 61441 1 1 1 1) TooLarge 0 ∷
+    refuses (minimizer_sizes 0 1 2 1 2 0 1) BadSetting 0 ∷
+    refuses (minimizer_sizes 0 1 2 1 2 1 0) BadSetting 0 ∷
+    refuses (minimizer_sizes 0 1 2 1 1 1 1) UnequalLengths 0 ∷
+    refuses (minimizer_sizes 0 1 1 1 2 1 1) UnequalLengths 0 ∷
     -- the interval sweep, 1 to 3
     fine (interval_sizes 4096 61440 61440 61440 1 1 1) ∷
     fine (interval_sizes 0 0 0 0 0 0 1) ∷
-    refuses (interval_sizes 4097 0 0 0 1 1 1) 1 0 ∷
-    refuses (interval_sizes 0 61441 0 0 1 1 1) 1 0 ∷
-    refuses (interval_sizes 0 0 61441 0 1 1 1) 1 0 ∷
-    refuses (interval_sizes 0 0 0 61441 1 1 0) 1 0 ∷
-    refuses (interval_sizes 0 1 2 2 1 1 0) 2 0 ∷
-    refuses (interval_sizes 0 1 2 1 1 1 1) 3 0 ∷
-    refuses (interval_sizes 0 1 1 2 1 1 1) 3 0 ∷
-    refuses (interval_sizes 0 1 1 1 1 2 1) 3 0 ∷
+    refuses (interval_sizes 4097 0 0 0 1 1 1) TooLarge 0 ∷
+    refuses (interval_sizes 0 61441 0 0 1 1 1) TooLarge 0 ∷
+    refuses (interval_sizes 0 0 61441 0 1 1 1) TooLarge 0 ∷
+    refuses (interval_sizes 0 0 0 61441 1 1 0) TooLarge 0 ∷
+    refuses (interval_sizes 0 1 2 2 1 1 0) BadSetting 0 ∷
+    refuses (interval_sizes 0 1 2 1 1 1 1) UnequalLengths 0 ∷
+    refuses (interval_sizes 0 1 1 2 1 1 1) UnequalLengths 0 ∷
+    refuses (interval_sizes 0 1 1 1 1 2 1) UnequalLengths 0 ∷
     -- both sweeps, 4 and 5, with the later of two neighbours
     fine (sweep_orders [] []) ∷
     fine (sweep_orders (20 ∷ 40 ∷ []) (0 ∷ 0 ∷ 8 ∷ [])) ∷
-    refuses (sweep_orders (20 ∷ 40 ∷ 40 ∷ 30 ∷ []) (1 ∷ 0 ∷ [])) 4 2 ∷
-    refuses (sweep_orders (20 ∷ 10 ∷ []) []) 4 1 ∷
-    refuses (sweep_orders (20 ∷ 40 ∷ []) (0 ∷ 4 ∷ 4 ∷ 3 ∷ [])) 5 3 ∷
+    refuses (sweep_orders (20 ∷ 40 ∷ 40 ∷ 30 ∷ []) (1 ∷ 0 ∷ [])) QueryOrder 2 ∷
+    refuses (sweep_orders (20 ∷ 10 ∷ []) []) QueryOrder 1 ∷
+    refuses (sweep_orders (20 ∷ 40 ∷ []) (0 ∷ 4 ∷ 4 ∷ 3 ∷ [])) ItemOrder 3 ∷
     -- 7, with k+1 entries and with k
     fine (sweep_table 2 3) ∷
     fine (sweep_table 0 1) ∷
-    refuses (sweep_table 2 2) 7 0 ∷
-    refuses (sweep_table 0 0) 7 0 ∷
+    refuses (sweep_table 2 2) ShortTable 0 ∷
+    refuses (sweep_table 0 0) ShortTable 0 ∷
     -- 8: 4,097 hashes and items want 65 bit words, and those 2 summary words
     fine (sweep_needs 4097 4097 4097 4097 65 2) ∷
     fine (sweep_needs 4096 4096 4096 4096 64 1) ∷
     fine (sweep_needs 0 0 0 0 0 0) ∷
-    refuses (sweep_needs 4097 4096 4097 4097 65 2) 8 0 ∷
-    refuses (sweep_needs 4097 4097 4096 4097 65 2) 8 0 ∷
-    refuses (sweep_needs 4097 4097 4097 4096 65 2) 8 0 ∷
-    refuses (sweep_needs 4097 4097 4097 4097 64 2) 8 0 ∷
-    refuses (sweep_needs 4097 4097 4097 4097 65 1) 8 0 ∷
+    refuses (sweep_needs 4097 4096 4097 4097 65 2) ShortBuffer 0 ∷
+    refuses (sweep_needs 4097 4097 4096 4097 65 2) ShortBuffer 0 ∷
+    refuses (sweep_needs 4097 4097 4097 4096 65 2) ShortBuffer 0 ∷
+    refuses (sweep_needs 4097 4097 4097 4097 64 2) ShortBuffer 0 ∷
+    refuses (sweep_needs 4097 4097 4097 4097 65 1) ShortBuffer 0 ∷
     fine (keys_need 5 10) ∷
     fine (keys_need 0 0) ∷
-    refuses (keys_need 5 9) 8 0 ∷
+    refuses (keys_need 5 9) ShortBuffer 0 ∷
     -- the script: 1 and 3
     fine (script_sizes 4096 65536 65536 65536) ∷
     fine (script_sizes 0 1 0 0) ∷
-    refuses (script_sizes 4097 1 0 0) 1 0 ∷
-    refuses (script_sizes 1 65537 0 0) 1 0 ∷
-    refuses (script_sizes 1 0 0 0) 1 0 ∷
-    refuses (script_sizes 1 1 65537 0) 1 0 ∷
-    refuses (script_sizes 1 1 0 65537) 1 0 ∷
-    refuses (script_sizes 1 1 2 3) 3 0 ∷
+    refuses (script_sizes 4097 1 0 0) TooLarge 0 ∷
+    refuses (script_sizes 1 65537 0 0) TooLarge 0 ∷
+    refuses (script_sizes 1 0 0 0) TooLarge 0 ∷
+    refuses (script_sizes 1 1 65537 0) TooLarge 0 ∷
+    refuses (script_sizes 1 1 0 65537) TooLarge 0 ∷
+    refuses (script_sizes 1 1 2 3) UnequalLengths 0 ∷
     -- 4 and 5
     fine (script_orders (20 ∷ 40 ∷ []) (10 ∷ 20 ∷ 40 ∷ [])) ∷
-    refuses (script_orders [] (20 ∷ 10 ∷ [])) 4 0 ∷
-    refuses (script_orders (20 ∷ 20 ∷ []) (20 ∷ 10 ∷ [])) 4 1 ∷
-    refuses (script_orders (20 ∷ 40 ∷ []) (10 ∷ 20 ∷ 20 ∷ 15 ∷ [])) 5 2 ∷
+    refuses (script_orders [] (20 ∷ 10 ∷ [])) QueryOrder 0 ∷
+    refuses (script_orders (20 ∷ 20 ∷ []) (20 ∷ 10 ∷ [])) QueryOrder 1 ∷
+    refuses (script_orders (20 ∷ 40 ∷ []) (10 ∷ 20 ∷ 20 ∷ 15 ∷ [])) ItemOrder 2 ∷
     -- 6: the query, then the steps in order
     fine (script_members (20 ∷ 40 ∷ []) (10 ∷ 20 ∷ 40 ∷ []) (2 ∷ 0 ∷ []) (0 ∷ 1 ∷ [])) ∷
-    refuses (script_members (20 ∷ 30 ∷ 40 ∷ []) (10 ∷ 20 ∷ []) (5 ∷ []) (7 ∷ [])) 6 1 ∷
-    refuses (script_members (20 ∷ []) (10 ∷ 20 ∷ []) (1 ∷ 2 ∷ 0 ∷ []) (1 ∷ 1 ∷ 2 ∷ [])) 6 1 ∷
-    refuses (script_members (20 ∷ []) (10 ∷ 20 ∷ []) (1 ∷ 0 ∷ 2 ∷ []) (1 ∷ 2 ∷ 1 ∷ [])) 6 1 ∷
+    refuses (script_members (20 ∷ 30 ∷ 40 ∷ []) (10 ∷ 20 ∷ []) (5 ∷ []) (7 ∷ [])) NotMember 1 ∷
+    refuses (script_members (20 ∷ []) (10 ∷ 20 ∷ []) (1 ∷ 2 ∷ 0 ∷ []) (1 ∷ 1 ∷ 2 ∷ [])) NotMember 1 ∷
+    refuses (script_members (20 ∷ []) (10 ∷ 20 ∷ []) (1 ∷ 0 ∷ 2 ∷ []) (1 ∷ 2 ∷ 1 ∷ [])) NotMember 1 ∷
     -- 8
     fine (script_needs 4097 3 4097 65 2 3 3) ∷
     fine (script_needs 1 0 1 1 1 0 0) ∷
-    refuses (script_needs 4097 3 4096 65 2 3 3) 8 0 ∷
-    refuses (script_needs 4097 3 4097 64 2 3 3) 8 0 ∷
-    refuses (script_needs 4097 3 4097 65 1 3 3) 8 0 ∷
-    refuses (script_needs 4097 3 4097 65 2 2 3) 8 0 ∷
-    refuses (script_needs 4097 3 4097 65 2 3 2) 8 0 ∷
+    refuses (script_needs 4097 3 4096 65 2 3 3) ShortBuffer 0 ∷
+    refuses (script_needs 4097 3 4097 64 2 3 3) ShortBuffer 0 ∷
+    refuses (script_needs 4097 3 4097 65 1 3 3) ShortBuffer 0 ∷
+    refuses (script_needs 4097 3 4097 65 2 2 3) ShortBuffer 0 ∷
+    refuses (script_needs 4097 3 4097 65 2 3 2) ShortBuffer 0 ∷
     -- the minimizer finder: 1, 2, 3
     fine (minimizer_finder_sizes 61440 61440 4096 2147483647) ∷
     fine (minimizer_finder_sizes 0 0 0 1) ∷
-    refuses (minimizer_finder_sizes 61441 0 0 0) 1 0 ∷
-    refuses (minimizer_finder_sizes 0 61441 0 0) 1 0 ∷
-    refuses (minimizer_finder_sizes 0 0 4097 0) 1 0 ∷
-    refuses (minimizer_finder_sizes 0 0 0 0) 2 0 ∷
-    refuses (minimizer_finder_sizes 0 0 0 2147483648) 2 0 ∷
+    refuses (minimizer_finder_sizes 61441 0 0 0) TooLarge 0 ∷
+    refuses (minimizer_finder_sizes 0 61441 0 0) TooLarge 0 ∷
+    refuses (minimizer_finder_sizes 0 0 4097 0) TooLarge 0 ∷
+    refuses (minimizer_finder_sizes 0 0 0 0) BadSetting 0 ∷
+    refuses (minimizer_finder_sizes 0 0 0 2147483648) BadSetting 0 ∷
     fine (minimizer_finder_lengths 5 5 5) ∷
-    refuses (minimizer_finder_lengths 5 4 5) 3 0 ∷
-    refuses (minimizer_finder_lengths 5 5 4) 3 0 ∷
-    refuses (minimizer_finder_lengths 5 5 6) 3 0 ∷
+    refuses (minimizer_finder_lengths 5 4 5) UnequalLengths 0 ∷
+    refuses (minimizer_finder_lengths 5 5 4) UnequalLengths 0 ∷
+    refuses (minimizer_finder_lengths 5 5 6) UnequalLengths 0 ∷
     -- the interval finder: 1, 2, 3
     fine (interval_finder_sizes 61440 61440 61440 4096 2147483647) ∷
-    refuses (interval_finder_sizes 61441 0 0 0 0) 1 0 ∷
-    refuses (interval_finder_sizes 0 61441 0 0 0) 1 0 ∷
-    refuses (interval_finder_sizes 0 0 61441 0 0) 1 0 ∷
-    refuses (interval_finder_sizes 0 0 0 4097 0) 1 0 ∷
-    refuses (interval_finder_sizes 0 0 0 0 0) 2 0 ∷
-    refuses (interval_finder_sizes 0 0 0 0 2147483648) 2 0 ∷
+    refuses (interval_finder_sizes 61441 0 0 0 0) TooLarge 0 ∷
+    refuses (interval_finder_sizes 0 61441 0 0 0) TooLarge 0 ∷
+    refuses (interval_finder_sizes 0 0 61441 0 0) TooLarge 0 ∷
+    refuses (interval_finder_sizes 0 0 0 4097 0) TooLarge 0 ∷
+    refuses (interval_finder_sizes 0 0 0 0 0) BadSetting 0 ∷
+    refuses (interval_finder_sizes 0 0 0 0 2147483648) BadSetting 0 ∷
     fine (interval_finder_lengths 5 5 5 5) ∷
-    refuses (interval_finder_lengths 5 4 5 5) 3 0 ∷
-    refuses (interval_finder_lengths 5 5 4 5) 3 0 ∷
-    refuses (interval_finder_lengths 5 5 5 4) 3 0 ∷
+    refuses (interval_finder_lengths 5 4 5 5) UnequalLengths 0 ∷
+    refuses (interval_finder_lengths 5 5 4 5) UnequalLengths 0 ∷
+    refuses (interval_finder_lengths 5 5 5 4) UnequalLengths 0 ∷
     -- 8
     fine (finder_needs 5 5 5 5 5) ∷
     fine (finder_needs 0 0 0 0 0) ∷
-    refuses (finder_needs 5 4 5 5 5) 8 0 ∷
-    refuses (finder_needs 5 5 4 5 5) 8 0 ∷
-    refuses (finder_needs 5 5 5 4 5) 8 0 ∷
-    refuses (finder_needs 5 5 5 5 4) 8 0 ∷
+    refuses (finder_needs 5 4 5 5 5) ShortBuffer 0 ∷
+    refuses (finder_needs 5 5 4 5 5) ShortBuffer 0 ∷
+    refuses (finder_needs 5 5 5 4 5) ShortBuffer 0 ∷
+    refuses (finder_needs 5 5 5 5 4) ShortBuffer 0 ∷
     fine (end_keys_need 5 5) ∷
-    refuses (end_keys_need 5 4) 8 0 ∷
+    refuses (end_keys_need 5 4) ShortBuffer 0 ∷
     []
 
 -- every check says so
@@ -329,8 +331,8 @@ calls =
     -- buffers at exit: work and output on answer 0, and both where refused
     says (list (work_left Fine 2 (7 ∷ 8 ∷ 9 ∷ []))) (list (0 ∷ 0 ∷ 9 ∷ [])) ∷
     says (list (output_left Fine (1 ∷ []) (7 ∷ 8 ∷ []))) (list (1 ∷ 8 ∷ [])) ∷
-    says (list (work_left (refuse 8 0) 2 (7 ∷ 8 ∷ 9 ∷ []))) (list (7 ∷ 8 ∷ 9 ∷ [])) ∷
-    says (list (output_left (refuse 8 0) (1 ∷ []) (7 ∷ 8 ∷ []))) (list (7 ∷ 8 ∷ [])) ∷
+    says (list (work_left (refuse ShortBuffer 0) 2 (7 ∷ 8 ∷ 9 ∷ []))) (list (7 ∷ 8 ∷ 9 ∷ [])) ∷
+    says (list (output_left (refuse ShortBuffer 0) (1 ∷ []) (7 ∷ 8 ∷ []))) (list (7 ∷ 8 ∷ [])) ∷
     []
 
 -- every call answers so

@@ -1,5 +1,5 @@
 -- The job at the fronts of the filled lists is the job of the rules: each list holds the job's entries at its front, and the parallel ones are equally long. Assumes nothing.
-use Prim.Native.Nat.{ℕ, ◌-◌, ◌≤◌}
+use Prim.Native.Nat.{ℕ, ◌≤◌}
 use mathlib.Core.Path.{◌≡◌, refl, sym, ap, ◌∙◌}
 use mathlib.Core.Bool.{Bool, true, false}
 use mathlib.Core.List.{List, [], map}
@@ -10,7 +10,8 @@ use lib.ListN.{length, take, drop, length-map}
 use lib.Seq.{take_at}
 use Rattle.base.specs.Pick.{pick}
 use Rattle.base.specs.Buffers.{over}
-use Rattle.base.specs.declared.SweepAnswer.{SweepAnswer}
+use Rattle.base.specs.declared.Settings.{Settings}
+use Rattle.base.specs.declared.Range.{Range}
 use Rattle.base.proofs.Buffers.{length_over}
 use Rattle.rules.specs.Limits.{job_query_limit, job_item_limit, job_estimate_limit, item_size, interval_size, estimate_size, items_tag, estimates_tag, minimizer_mode}
 use Rattle.rules.specs.Sweep.{Sweep}
@@ -18,16 +19,18 @@ use Rattle.rules.specs.Job.{Field, Job, joined_data, mode_of, units, whole, job_
 use Rattle.rules.specs.Lines.{answer_lines, job_answer}
 use Rattle.job.specs.Read.{decoded, decoded_of, Lists, filled}
 use Rattle.job.specs.Units.{fields_in, item_unit, Accepted}
-use Rattle.job.specs.declared.fill.Decoded.{Decoded}
+use Rattle.job.specs.declared.fill.Asked.{Asked}
+use Rattle.job.specs.declared.fronts.Job as code
+use Rattle.job_fields.specs.Mode.{mode_at}
+use Rattle.job_fields.specs.declared.mode.Mode.TheVariants.{Minimizer, Interval}
 use Rattle.job.proofs.Accepted.{accepted, all_fields}
 use Rattle.job.proofs.Decoding.{query_count, items_joined, items_filled, estimates_filled}
 use Rattle.job_fields.proofs.Picks.{pick_yes, pick_no}
 use Rattle.lines.specs.Written.{lines_by}
 use Rattle.lines.proofs.Writing.{lines_are}
-use Rattle.job_answer.specs.Mapped.{minimizer_done, interval_done, answer_in}
+use Rattle.job_answer.specs.Mapped.{points_of, spans_of, minimizer_done, interval_done, answer_in}
 use Rattle.job_answer.proofs.Window.{windowed, window_unseen}
-use Rattle.job_answer.proofs.Parts.{less_none}
-use Rattle.run.specs.Held.{Held, lines_in}
+use Rattle.run.specs.Held.{Held, Fronts}
 
 -- ---- how long a job's lists are
 
@@ -67,10 +70,10 @@ pub record Within (j : Job) : Type 0 where
 decoded_within : (bytes : List ℕ) → Accepted bytes → Within (decoded bytes)
 decoded_within bytes a =
     let u = item_unit (mode_of (fields_in bytes)) in
-    let items = items_filled bytes a u refl {hashes = []} {starts = []} {ends = []} refl refl refl refl in
-    let estimates = estimates_filled bytes a {is = []} {us = []} {ib = []} {ub = []} refl refl refl refl refl in
+    let items = items_filled bytes a u refl _ refl {hashes = []} {starts = []} {ends = []} refl refl refl refl in
+    let estimates = estimates_filled bytes a _ refl {is = []} {us = []} {ib = []} {ub = []} refl refl refl refl refl in
     record {
-      few_hashes = omega (arith, query_count bytes a, a.query.few);
+      few_hashes = omega (arith, query_count bytes a _ refl, a.query.few);
       few_items = omega (arith, items.count, (items_joined bytes a u refl).few);
       few_estimates = omega (arith, estimates.count, a.estimates.few);
     }
@@ -98,10 +101,11 @@ front xs l n e = take_at xs (drop (length xs) l) n e
 room : {A : Type 0} (xs l : List A) (n m : ℕ) → length xs ≤ m → length l ≡ m → n ≤ m → n ≤ length (over xs l)
 room xs l n m h e k = let o : length xs ≤ length l = omega arith in omega (arith, length_over xs l o)
 
--- a sweep of equal lists
-swept : (t : Sweep) (w : ℕ) {q h s e : List ℕ} {i u : List Float} → q ≡ t.query → h ≡ t.hashes → s ≡ t.starts → e ≡ t.ends → i ≡ t.identities → u ≡ t.uppers
-    → ◌≡◌ {A = Sweep} (record { query = q; hashes = h; starts = s; ends = e; settings = t.settings; window = w; range = t.range; identities = i; uppers = u; minimum = t.minimum }) (windowed w t)
-swept t w a b c d x y = cc
+-- a sweep of equal parts
+swept : (t : Sweep) (w : ℕ) {q h s e : List ℕ} {st : Settings} {r : Range} {i u : List Float} {m : Float} → q ≡ t.query → h ≡ t.hashes → s ≡ t.starts → e ≡ t.ends
+    → st ≡ t.settings → r ≡ t.range → i ≡ t.identities → u ≡ t.uppers → m ≡ t.minimum
+    → ◌≡◌ {A = Sweep} (record { query = q; hashes = h; starts = s; ends = e; settings = st; window = w; range = r; identities = i; uppers = u; minimum = m }) (windowed w t)
+swept t w a b c d f g x y z = cc
 
 module _ (j : Job) (p : Parallel j) (l : Lists) where
   -- the lists have room for what stands at their fronts
@@ -111,18 +115,16 @@ module _ (j : Job) (p : Parallel j) (l : Lists) where
       let few = w.few_items in
       let each = w.few_estimates in
       record {
-        rooms = record {
-          query_room = room j.sweep.query l.query _ 512 w.few_hashes s.query_is w.few_hashes;
-          hash_room = room j.sweep.hashes l.hashes _ 2048 few s.hashes_are few;
-          start_room = room j.sweep.starts l.starts _ 2048 (omega (arith, p.starts_are)) s.starts_are few;
-          end_room = room j.sweep.ends l.ends _ 2048 few_ends s.ends_are few;
-          identity_room = room j.sweep.identities l.identities _ 513 (omega (arith, p.identities_are)) s.identities_are each;
-          upper_room = room j.sweep.uppers l.uppers _ 513 (omega (arith, p.uppers_are)) s.uppers_are each;
-          few_hashes = w.few_hashes;
-          few_items = few;
-        };
+        query_room = room j.sweep.query l.query _ 512 w.few_hashes s.query_is w.few_hashes;
+        hash_room = room j.sweep.hashes l.hashes _ 2048 few s.hashes_are few;
+        start_room = room j.sweep.starts l.starts _ 2048 (omega (arith, p.starts_are)) s.starts_are few;
+        end_room = room j.sweep.ends l.ends _ 2048 few_ends s.ends_are few;
+        identity_room = room j.sweep.identities l.identities _ 513 (omega (arith, p.identities_are)) s.identities_are each;
+        upper_room = room j.sweep.uppers l.uppers _ 513 (omega (arith, p.uppers_are)) s.uppers_are each;
         identity_bit_room = room j.identity_bits l.identity_bits _ 513 each s.identity_bits_are each;
         upper_bit_room = room j.upper_bits l.upper_bits _ 513 (omega (arith, p.upper_bits_are)) s.upper_bits_are each;
+        few_hashes = w.few_hashes;
+        few_items = few;
       }
     where
       by_mode : (t : Bool) → eqb j.mode minimizer_mode ≡ t → length j.sweep.ends ≤ 2048
@@ -147,30 +149,75 @@ module _ (j : Job) (p : Parallel j) (l : Lists) where
   uppers_front : take (length j.identity_bits) (over j.sweep.uppers l.uppers) ≡ j.sweep.uppers
   uppers_front = front j.sweep.uppers l.uppers (length j.identity_bits) p.uppers_are
 
-  -- the answer is the rules',
-  answer_front : (t : Bool) → eqb j.mode minimizer_mode ≡ t
-      → let f = filled j l in answer_in (decoded_of j) f.query f.hashes f.starts f.ends f.identities f.uppers ≡ job_answer j
-  unfolding decoded_of filled answer_in job_answer minimizer_done interval_done
-  answer_front true e =
-      pick_yes _ _ _ e
-      ∙ ap minimizer_done (swept j.sweep j.sweep.window query_front hashes_front starts_front (sym (p.no_ends e)) identities_front uppers_front)
-      ∙ sym (pick_yes _ _ _ e)
-  answer_front false e =
-      pick_no _ _ _ e
-      ∙ ap interval_done (swept j.sweep 0 query_front hashes_front starts_front (front j.sweep.ends l.ends (length j.sweep.hashes) (p.ends_are e)) identities_front uppers_front)
-      ∙ window_unseen 0 j.sweep
-      ∙ sym (pick_no _ _ _ e)
+  -- a job of these fronts
+  module _ (x : code.Job) (f : Fronts (decoded_of j) (filled j l) x) where
+    query_is : x.query.now ≡ j.sweep.query
+    unfolding decoded_of filled
+    query_is = f.query ∙ query_front
 
-  -- and so are the lines
-  pub lines_front : lines_in (decoded_of j) (filled j l) ≡ answer_lines j (job_answer j)
-  unfolding lines_in decoded_of filled
-  lines_front =
-      rw (front j.identity_bits l.identity_bits _ refl, front j.upper_bits l.upper_bits _ p.upper_bits_are)
-      (ap (lines_by j.identity_bits j.upper_bits) (answer_front (eqb j.mode minimizer_mode) refl) ∙ lines_are j (job_answer j))
+    hashes_are : x.hashes.now ≡ j.sweep.hashes
+    unfolding decoded_of filled
+    hashes_are = f.hashes ∙ hashes_front
 
--- ---- the parts that the code cuts off
+    starts_are : x.starts.now ≡ j.sweep.starts
+    unfolding decoded_of filled
+    starts_are = f.starts ∙ starts_front
 
-pub lines_in_lem : (d : Decoded) (l : Lists) (a : SweepAnswer) → a ≡ answer_in d l.query l.hashes l.starts l.ends l.identities l.uppers
-    → lines_by (take (d.estimates - 0) (drop 0 l.identity_bits)) (take (d.estimates - 0) (drop 0 l.upper_bits)) a ≡ lines_in d l
-unfolding lines_in
-lines_in_lem d l a e = rw (less_none d.estimates) (ap (lines_by (take d.estimates l.identity_bits) (take d.estimates l.upper_bits)) e)
+    ends_are : eqb j.mode minimizer_mode ≡ false → x.ends.now ≡ j.sweep.ends
+    unfolding decoded_of filled
+    ends_are e = f.ends ∙ front j.sweep.ends l.ends (length j.sweep.hashes) (p.ends_are e)
+
+    identities_are : x.identities.now ≡ j.sweep.identities
+    unfolding decoded_of filled
+    identities_are = f.identities ∙ identities_front
+
+    uppers_are : x.uppers.now ≡ j.sweep.uppers
+    unfolding decoded_of filled
+    uppers_are = f.uppers ∙ uppers_front
+
+    identity_bits_are : x.identity_bits.now ≡ j.identity_bits
+    unfolding decoded_of filled
+    identity_bits_are = f.identity_bits ∙ front j.identity_bits l.identity_bits _ refl
+
+    upper_bits_are : x.upper_bits.now ≡ j.upper_bits
+    unfolding decoded_of filled
+    upper_bits_are = f.upper_bits ∙ front j.upper_bits l.upper_bits _ p.upper_bits_are
+
+    settings_are : x.asked.settings ≡ j.sweep.settings
+    unfolding decoded_of
+    settings_are = ap (λ (a : Asked). a.settings) f.asked
+
+    window_is : x.asked.window ≡ j.sweep.window
+    unfolding decoded_of
+    window_is = ap (λ (a : Asked). a.window) f.asked
+
+    range_is : x.asked.range ≡ j.sweep.range
+    unfolding decoded_of
+    range_is = ap (λ (a : Asked). a.range) f.asked
+
+    minimum_is : x.minimum ≡ j.sweep.minimum
+    unfolding decoded_of
+    minimum_is = f.minimum
+
+    points_are : eqb j.mode minimizer_mode ≡ true → points_of x ≡ j.sweep
+    points_are e =
+        swept j.sweep x.asked.window query_is hashes_are starts_are (sym (p.no_ends e)) settings_are range_is identities_are uppers_are minimum_is ∙ ap (λ (w : ℕ). windowed w j.sweep) window_is
+
+    spans_are : eqb j.mode minimizer_mode ≡ false → spans_of x ≡ windowed 0 j.sweep
+    spans_are e = swept j.sweep 0 query_is hashes_are starts_are (ends_are e) settings_are range_is identities_are uppers_are minimum_is
+
+    -- the answer is the rules',
+    answer_front : (t : Bool) → eqb j.mode minimizer_mode ≡ t → answer_in x ≡ job_answer j
+    unfolding decoded_of mode_at answer_in job_answer minimizer_done interval_done
+    answer_front true e =
+        let mode : x.mode ≡ Minimizer = f.mode ∙ pick_yes _ _ _ e in
+        rw mode (ap minimizer_done (points_are e) ∙ sym (pick_yes _ _ _ e))
+    answer_front false e =
+        let mode : x.mode ≡ Interval = f.mode ∙ pick_no _ _ _ e in
+        rw mode (ap interval_done (spans_are e) ∙ window_unseen 0 j.sweep ∙ sym (pick_no _ _ _ e))
+
+    -- and so are the lines
+    pub lines_front : lines_by x.identity_bits.now x.upper_bits.now (answer_in x) ≡ answer_lines j (job_answer j)
+    lines_front =
+        ap (λ (b : List ℕ). lines_by b x.upper_bits.now (answer_in x)) identity_bits_are ∙ ap (λ (b : List ℕ). lines_by j.identity_bits b (answer_in x)) upper_bits_are ∙
+        ap (lines_by j.identity_bits j.upper_bits) (answer_front (eqb j.mode minimizer_mode) refl) ∙ lines_are j (job_answer j)

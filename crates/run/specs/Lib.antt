@@ -1,2 +1,2 @@
--- Held: the job that stands at the fronts of the lists, and its lines
+-- Held: the job that stands at the fronts of the lists
 pub mod Held

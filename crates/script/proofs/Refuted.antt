@@ -6,7 +6,9 @@ use mathlib.Core.Path.{◌≡◌, refl, sym, ap, ◌∙◌}
 use mathlib.Core.List.{[], ◌∷◌}
 use native.Mathlib.Omega.{arith}
 use lib.ListN.{get_or}
-use Rattle.base.specs.declared.ScriptAnswer.{ScriptAnswer}
+use Rattle.std.specs.Prelude.{Err}
+use Rattle.base.specs.declared.Reason.{Reason}
+use Rattle.base.specs.Answers.{ScriptAnswer}
 use Rattle.rules.specs.Script.{Script}
 use Rattle.rules.specs.Told.{Told}
 use Rattle.rules.specs.Calls.{ScriptLent, ScriptPromise}
@@ -33,6 +35,6 @@ script_leaves_work r after kept p = work_unzeroed 5 _ p.left.counts (omega arith
 abbrev descending : Script
 descending = record { query = 40 ∷ 20 ∷ []; coords = 10 ∷ 20 ∷ 30 ∷ 40 ∷ 50 ∷ []; indexes = []; kinds = [] }
 
-pub script_other_place : (n : ℕ) (after : ScriptLent) → ScriptPromise descending (ScriptAnswer.Refused (record { number = n; place = 0 })) ones_a after → ⊥
+pub script_other_place : (reason : Reason) (after : ScriptLent) → ScriptPromise descending (Err (record { reason = reason; place = 0 })) ones_a after → ⊥
 unfolding computes
-script_other_place n after p = let e : ◌≡◌ {A = ℕ} 0 1 = ap (λ (t : Told). t.place) p.answer in omega (arith, e)
+script_other_place reason after p = let e : ◌≡◌ {A = ℕ} 0 1 = ap (λ (t : Told). t.place) p.answer in omega (arith, e)

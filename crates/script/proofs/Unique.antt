@@ -3,7 +3,7 @@
 use mathlib.Core.Path.{◌≡◌, ap}
 use mathlib.Core.List.{List}
 use Prim.Native.Nat.{ℕ}
-use Rattle.base.specs.declared.ScriptAnswer.{ScriptAnswer}
+use Rattle.base.specs.Answers.{ScriptAnswer}
 use Rattle.rules.specs.Script.{Script}
 use Rattle.rules.specs.Calls.{ScriptLent, ScriptPromise}
 use Rattle.rules.proofs.Unique.{script_unique}

@@ -8,12 +8,12 @@ use Prim.Native.Nat.{ℕ, ◌+◌, ◌≤◌, ◌<◌}
 use native.Mathlib.Numerals.{add-one}
 use native.Mathlib.Omega.{arith}
 use lib.ListN.{length, get_or, set, take, replicate, length-set, length-replicate}
-use lib.Seq.{get_or-set_same, get_or-set_other, ext_get_or, take-suc, take_all}
+use lib.Seq.{get_or-set_same, get_or-set_other, get_or-take, ext_get_or, take-suc, take_all}
 use borrow.Author.Tests.{eq-eqb, ne_eqb}
 use Rattle.base.specs.Pick.{pick}
 use Rattle.base.specs.Lists.{StrictAsc}
 use Rattle.base.proofs.Lists.{map_at}
-use Rattle.base.proofs.Order.{eq_or_ne}
+use Rattle.std.proofs.lemmas.Bool.{cases_eq}
 use Rattle.rules.specs.Lists.{member}
 use Rattle.rules.specs.Score.{number_of}
 use Rattle.rules.specs.Checks.{ceil64}
@@ -26,10 +26,11 @@ use Rattle.rules.proofs.Ranks.{pivot_only}
 use Rattle.rules.proofs.Script.{begin_slid}
 use Rattle.summary_bits.proofs.Words.{clear_bits}
 use Rattle.summary_bits.proofs.Kept.{clear_summary}
-use Rattle.slide_mapper.specs.declared.Slide.{Slide}
+use Rattle.base.specs.declared.Slide.{Slide}
 use Rattle.slide_mapper.specs.State.{flags_of, counts_of, slide_of, Blank, Ready}
 use Rattle.slide_mapper.proofs.Marked.{ones_flags, ones_counts, ones-length, ones_low, ones-size}
-use Rattle.script_work.specs.Work.{Sound, Clear, marked, Begun}
+use Rattle.script_work.specs.Sound.{Sound, Placed}
+use Rattle.script_work.specs.Work.{Clear, marked, Begun}
 
 marked_none : (coords : List ℕ) → replicate (length coords) 0 ≡ marked [] coords
 unfolding marked member pick
@@ -76,9 +77,12 @@ module _ (query coords : List ℕ) (asc : StrictAsc coords) (h : ℕ) (in_coords
       (λ (e : i ≡ n).
       subst (λ (k : ℕ). get_or (set old n 1) k 0 ≡ get_or (marked more coords) k 0) (sym e)
       (get_or-set_same old n 1 0 (omega (arith, number_fits coords asc h in_coords, ones-length query coords)) ∙ sym at_here))
-      (λ (d : i ≢ n). get_or-set_other old n i 1 0 d ∙ sym (at_other i (omega (arith, long)) d)) (eq_or_ne i n))
+      (λ (d : i ≢ n). get_or-set_other old n i 1 0 d ∙ sym (at_other i (omega (arith, long)) d)) (cases_eq i n))
 
 -- ---- the loop, at the hash i
+
+pub place_at : {query coords places : List ℕ} {i : ℕ} → Placed query coords places (length query) → i < length query → get_or (take (length query) places) i 0 ≡ number_of coords (get_or query i 0)
+place_at {query} {coords} {places} {i} p l = get_or-take (length query) places i 0 l ∙ p.at i l
 
 pub record Marking (query coords cs : List ℕ) (i : ℕ) : Type 0 where
   pub upto : i ≤ length query

@@ -3,7 +3,7 @@
 -- Assumes nothing.
 use mathlib.Core.Path.{◌≡◌, refl, sym, ap, ◌∙◌, subst}
 use mathlib.Core.Logic.{⊎_elim, ◌≢◌}
-use mathlib.Core.Bool.{Bool, true, false}
+use mathlib.Core.Bool.{Bool, true, false, cond}
 use mathlib.Core.List.{List, [], ◌∷◌, ◌++◌, append-nil}
 use Prim.Native.Nat.{ℕ, ◌+◌, ◌-◌, ◌^◌, ◌≤◌, ◌<◌}
 use native.Mathlib.Numerals.{add-one}
@@ -11,49 +11,66 @@ use native.Mathlib.Omega.{arith}
 use lib.Dec.{eqb}
 use lib.ListN.{length, get_or, set, drop, length-set, length-append, drop_of_length-le}
 use lib.Seq.{get_or-set_same, get_or-set_other, drop-cons, append_snoc}
-use borrow.Author.Tests.{eq-eqb, ne_eqb}
+use Rattle.base.specs.Lists.{All}
 use Rattle.base.specs.Pick.{pick}
 use Rattle.base.proofs.Lists.{all_at}
-use Rattle.base.proofs.Order.{eq_or_ne}
+use Rattle.std.proofs.lemmas.Bool.{cases_eq}
 use Rattle.base.proofs.Buffers.{pushed}
 use Rattle.rules.specs.Script.{Look, stepped, last_or}
 use Rattle.rules.specs.Moves.{insert_ref, delete_ref, moved, moved_by, slide_look}
 use Rattle.rules.specs.Moves as moves
 use Rattle.rules.proofs.Moves.{moved-counts}
-use Rattle.slide_mapper.specs.declared.Slide.{Slide}
-use Rattle.slide_mapper.specs.State.{flags_of, counts_of, slide_of, Ready, Inserted, Deleted}
+use Rattle.base.specs.declared.Slide.{Slide}
+use Rattle.slide_mapper.specs.declared.lists.MapperLists.{MapperLists}
+use Rattle.slide_mapper.specs.State.{flags_of, counts_of, slide_of}
+use Rattle.slide_mapper.specs.Lent.{AtPivot, Entered, Left}
 use Rattle.slide_mapper.proofs.State.{counts_at, counts_length, flags_length, flags_set, ready_inserted, ready_deleted}
-use Rattle.script_work.specs.Work.{Steps, Stepped, look_of, looks_from, Underway, Answered, Reached, Further}
+use Rattle.slide_mapper.proofs.Lent.{ready_in, inserted_in, deleted_in, entered_length, left_length}
+use Rattle.base.specs.declared.Kind.TheVariants.{Delete, Insert}
+use Rattle.script_work.specs.declared.asked.Steps.{Steps}
+use Rattle.script_work.specs.declared.looks.Looks.{Looks}
+use Rattle.base.specs.Kinds.{kind_of, kind_number}
+use Rattle.script_work.specs.Looks.{SameLooks, Put}
+use Rattle.script_work.specs.Work.{Stepped, look_of, looks_from, Underway, Answered, Reached, Further}
 
 -- ---- one step
 
-moved_insert : (ms : List Bool) (kind i : ℕ) (s : moves.Slide) → kind ≡ 1 → moved ms kind i s ≡ insert_ref ms i s
+moved_insert : (ms : List Bool) (i : ℕ) (s : moves.Slide) → moved ms 1 i s ≡ insert_ref ms i s
 unfolding moved pick
-moved_insert ms kind i s e = rw (eq-eqb kind 1 e)
+moved_insert ms i s = refl
 
-moved_delete : (ms : List Bool) (kind i : ℕ) (s : moves.Slide) → kind ≢ 1 → moved ms kind i s ≡ delete_ref ms i s
+moved_delete : (ms : List Bool) (i : ℕ) (s : moves.Slide) → moved ms 0 i s ≡ delete_ref ms i s
 unfolding moved pick
-moved_delete ms kind i s e = rw (ne_eqb kind 1 e)
+moved_delete ms i s = refl
 
-module _ {cs ws ss : List ℕ} {at : Slide} {i : ℕ} {cs' ws' ss' : List ℕ} {r : Slide} (kind : ℕ) (k : Ready cs ws ss at) (l : i < length cs) where
-  pub stepped_insert : kind ≡ 1 → Inserted cs ws ss at i cs' ws' ss' r → Stepped cs ws ss at kind i cs' ws' ss' r
-  stepped_insert e m = record {
-    ready = ready_inserted k l m;
-    flags = ap flags_of m.counts ∙ flags_set cs i (get_or cs i 0 + 2) (omega arith);
-    slide = m.slide ∙ sym (moved_insert (flags_of cs) kind i (slide_of cs at) e);
+-- a number moves as its kind does
+moved_kind : (ms : List Bool) (k i : ℕ) (s : moves.Slide) → moved ms (kind_number (kind_of k)) i s ≡ moved ms k i s
+unfolding moved pick
+moved_kind ms k i s =
+    elim (eqb k 1) as (λ (t : Bool). pick (eqb (kind_number (cond t Insert Delete)) 1) (insert_ref ms i s) (delete_ref ms i s) ≡ pick t (insert_ref ms i s) (delete_ref ms i s))
+    [ true ↦ refl | false ↦ refl ]
+
+module _ {m : MapperLists} {at : Slide} {i : ℕ} {n : MapperLists} {r : Slide} (p : AtPivot m at) (l : i < length m.counts.now) where
+  pub stepped_insert : Entered m at i n r → Stepped m at Insert i n r
+  stepped_insert e = record {
+    at_pivot = record { slid = (ready_inserted (ready_in p) l (inserted_in e)).slid };
+    size = entered_length e;
+    flags = ap flags_of e.counts ∙ flags_set m.counts.now i (get_or m.counts.now i 0 + 2) (omega arith);
+    slide = e.slide ∙ sym (moved_insert (flags_of m.counts.now) i (slide_of m.counts.now at));
   }
 
-  pub stepped_delete : kind ≢ 1 → Deleted cs ws ss at i cs' ws' ss' r → Stepped cs ws ss at kind i cs' ws' ss' r
-  stepped_delete e m = record {
-    ready = ready_deleted k l m;
-    flags = m.flags;
-    slide = m.slide ∙ sym (moved_delete (flags_of cs) kind i (slide_of cs at) e);
+  pub stepped_delete : Left m at i n r → Stepped m at Delete i n r
+  stepped_delete e = record {
+    at_pivot = record { slid = (ready_deleted (ready_in p) l (deleted_in e)).slid };
+    size = left_length e;
+    flags = e.flags;
+    slide = e.slide ∙ sym (moved_delete (flags_of m.counts.now) i (slide_of m.counts.now at));
   }
 
 -- a count grows by one at most
 counted : (kind i : ℕ) (ns : List ℕ) (m j : ℕ) → i < length ns → ((l : ℕ) → get_or ns l 0 ≤ m) → get_or (stepped kind i ns) j 0 ≤ m + 1
 unfolding stepped pick
-counted kind i ns m j h le = ⊎_elim here (λ (n : j ≢ i). rw (get_or-set_other ns i j v 0 n) (omega (arith, le j))) (eq_or_ne j i)
+counted kind i ns m j h le = ⊎_elim here (λ (n : j ≢ i). rw (get_or-set_other ns i j v 0 n) (omega (arith, le j))) (cases_eq j i)
   where
     v : ℕ
     v = pick (eqb kind 1) (get_or ns i 0 + 1) (get_or ns i 0 - 1)
@@ -84,120 +101,115 @@ looks_none ms is ks j s l = rw (drop_of_length-le is l)
 
 -- ---- the next step
 
-module _ {is ks cs ws ss ps ts : List ℕ} {at : Slide} {j : ℕ} (u : Underway is ks cs ws ss ps ts at j) (l : j < length is) where
-  pub next_kind : j < length ks
-  next_kind = omega (arith, u.steps.parallel)
+module _ {s : Steps} {m : MapperLists} {l : Looks} {at : Slide} {j : ℕ} (u : Underway s m l at j) (h : j < length s.indexes.now) where
+  pub next_kind : j < length s.kinds.now
+  next_kind = omega (arith, s.parallel)
 
   -- any step is within the coordinates, and any count has room
-  pub next_in : (k : ℕ) → k < length is → get_or is k 0 < length cs
-  next_in k h = all_at (λ i. i < length cs) is u.steps.within k h
+  pub next_in : (k : ℕ) → k < length s.indexes.now → get_or s.indexes.now k 0 < length m.counts.now
+  next_in k g = all_at (λ i. i < length m.counts.now) s.indexes.now u.within k g
 
-  pub next_fits : (i : ℕ) → get_or cs i 0 + 2 < 2 ^ 32
-  next_fits i = omega (arith, u.few i, counts_at cs i, u.steps.few)
+  pub next_fits : (i : ℕ) → get_or m.counts.now i 0 + 2 < 2 ^ 32
+  next_fits i = omega (arith, u.few i, counts_at m.counts.now i, s.few)
 
-  module _ {cs' ws' ss' : List ℕ} {at' : Slide} (m : Stepped cs ws ss at (get_or ks j 0) (get_or is j 0) cs' ws' ss' at') where
-    next_underway : length cs' ≡ length cs → Underway is ks cs' ws' ss' (set ps j at'.pivot.0) (set ts j at'.shared) at' (j + 1)
-    unfolding slide_of
-    next_underway e =
-        let kind = get_or ks j 0 in
-        let i = get_or is j 0 in
-        let counts : counts_of cs' ≡ stepped kind i (counts_of cs) =
-        ap (λ (x : moves.Slide). x.counts) m.slide ∙ moved-counts (flags_of cs) (slide_of cs at) u.ready.slid i (omega (arith, next_in j l, flags_length cs)) kind in
+  module _ {m' : MapperLists} {l' : Looks} {at' : Slide} (d : Stepped m at (kind_of (get_or s.kinds.now j 0)) (get_or s.indexes.now j 0) m' at') (p : Put l j at' l') where
+    kind : ℕ
+    kind = get_or s.kinds.now j 0
+
+    i : ℕ
+    i = get_or s.indexes.now j 0
+
+    slid : slide_of m'.counts.now at' ≡ moved (flags_of m.counts.now) (get_or s.kinds.now j 0) (get_or s.indexes.now j 0) (slide_of m.counts.now at)
+    slid = d.slide ∙ moved_kind (flags_of m.counts.now) _ _ _
+
+    next_underway : Underway s m' l' at' (j + 1)
+    unfolding slide_of kind i
+    next_underway =
+        let counts : counts_of m'.counts.now ≡ stepped kind i (counts_of m.counts.now) =
+        ap (λ (x : moves.Slide). x.counts) slid ∙ moved-counts (flags_of m.counts.now) (slide_of m.counts.now at) u.at_pivot.slid i (omega (arith, next_in j h, flags_length m.counts.now)) kind in
         record {
-          ready = m.ready;
-          few = λ k. rw counts (counted kind i (counts_of cs) j k (omega (arith, next_in j l, counts_length cs)) u.few);
-          steps = subst (λ (n : ℕ). Steps n is ks) (sym e) u.steps;
+          at_pivot = d.at_pivot;
+          few = λ k. rw counts (counted kind i (counts_of m.counts.now) j k (omega (arith, next_in j h, counts_length m.counts.now)) u.few);
+          within = subst (λ (n : ℕ). All (λ i. i < n) s.indexes.now) (sym d.size) u.within;
           outputs = record {
-            pivots = omega (arith, u.outputs.pivots, length-set ps j at'.pivot.0);
-            shareds = omega (arith, u.outputs.shareds, length-set ts j at'.shared);
+            pivots = omega (arith, u.outputs.pivots, length-set l.pivots.now j at'.pivot.0, ap length p.pivots);
+            shareds = omega (arith, u.outputs.shareds, length-set l.shareds.now j at'.shared, ap length p.shareds);
           };
         }
 
-    next_reached : (ms : List Bool) (start : Look) (answers : List Look) (ps₀ ts₀ : List ℕ) → Reached ms is ks start answers ps₀ ts₀ cs ps ts at j
-        → Reached ms is ks start answers ps₀ ts₀ cs' (set ps j at'.pivot.0) (set ts j at'.shared) at' (j + 1)
+    next_reached : (ms : List Bool) (start : Look) (answers : List Look) (first : Looks) → Reached ms s start answers first m l at j
+        → Reached ms s start answers first m' l' at' (j + 1)
     unfolding slide_look slide_of
-    next_reached ms start answers ps₀ ts₀ t =
-        let now = slide_of cs at in
+    next_reached ms start answers first t =
+        let now = slide_of m.counts.now at in
         let y = look_of at' in
-        let next : slide_of cs' at' ≡ moved ms (get_or ks j 0) (get_or is j 0) now = m.slide ∙ ap (λ (x : List Bool). moved x (get_or ks j 0) (get_or is j 0) now) t.flags in
+        let is = s.indexes.now in
+        let ks = s.kinds.now in
+        let next : slide_of m'.counts.now at' ≡ moved ms (get_or ks j 0) (get_or is j 0) now = slid ∙ ap (λ (x : List Bool). moved x (get_or ks j 0) (get_or is j 0) now) t.flags in
         record {
           done = t.done ++ (y ∷ []);
           many = omega (arith, length-append t.done (y ∷ []), t.many);
-          flags = m.flags ∙ t.flags;
+          flags = d.flags ∙ t.flags;
           rest =
-              append_snoc t.done y (looks_from ms (drop (j + 1) is) (drop (j + 1) ks) (slide_of cs' at')) ∙
+              append_snoc t.done y (looks_from ms (drop (j + 1) is) (drop (j + 1) ks) (slide_of m'.counts.now at')) ∙
               ap (λ (x : moves.Slide). t.done ++ slide_look x ∷ looks_from ms (drop (j + 1) is) (drop (j + 1) ks) x) next ∙
-              ap (λ (x : List Look). t.done ++ x) (sym (looks_next ms is ks j now l next_kind)) ∙ t.rest;
+              ap (λ (x : List Look). t.done ++ x) (sym (looks_next ms is ks j now h next_kind)) ∙ t.rest;
           answered = record {
-            pivots = pushed (λ (x : Look). x.pivot) t.done y ps₀ ps j t.answered.pivots t.many (omega (arith, u.outputs.pivots));
-            shareds = pushed (λ (x : Look). x.shared) t.done y ts₀ ts j t.answered.shareds t.many (omega (arith, u.outputs.shareds));
+            pivots = p.pivots ∙ pushed (λ (x : Look). x.pivot) t.done y first.pivots.now l.pivots.now j t.answered.pivots t.many (omega (arith, u.outputs.pivots));
+            shareds = p.shareds ∙ pushed (λ (x : Look). x.shared) t.done y first.shareds.now l.shareds.now j t.answered.shareds t.many (omega (arith, u.outputs.shareds));
             last = sym (last_snoc start y t.done);
           };
         }
 
 -- ---- a run: no step, one more, and as many more as a block has
 
--- the lengths are kept
-pub record Kept (cs₀ ws₀ ss₀ ps₀ ts₀ cs ws ss ps ts : List ℕ) : Type 0 where
-  pub counts : length cs ≡ length cs₀
-  pub words : length ws ≡ length ws₀
-  pub summary : length ss ≡ length ss₀
-  pub pivots : length ps ≡ length ps₀
-  pub shareds : length ts ≡ length ts₀
-
-pub record Running (is ks cs₀ ws₀ ss₀ ps₀ ts₀ : List ℕ) (at₀ : Slide) (from end : ℕ) (cs ws ss ps ts : List ℕ) (at : Slide) (j : ℕ) : Type 0 where
+pub record Running (s : Steps) (m₀ : MapperLists) (l₀ : Looks) (at₀ : Slide) (from end : ℕ) (m : MapperLists) (l : Looks) (at : Slide) (j : ℕ) : Type 0 where
   pub upto : j ≤ end
-  pub kept : Kept cs₀ ws₀ ss₀ ps₀ ts₀ cs ws ss ps ts
-  pub further : Further is ks cs₀ ps₀ ts₀ at₀ from cs ws ss ps ts at j
+  pub same : SameLooks l₀ l
+  pub further : Further s m₀ l₀ at₀ from m l at j
 
-pub running_start : {is ks cs ws ss ps ts : List ℕ} {at : Slide} {from end : ℕ} → Underway is ks cs ws ss ps ts at from → from ≤ end
-    → Running is ks cs ws ss ps ts at from end cs ws ss ps ts at from
-running_start u l = record {
-  upto = l;
-  kept = record { counts = refl; words = refl; summary = refl; pivots = refl; shareds = refl };
-  further = record { underway = u; reached = λ ms start answers ps₀ ts₀ t. t };
+pub running_start : {s : Steps} {m : MapperLists} {l : Looks} {at : Slide} {from end : ℕ} → Underway s m l at from → from ≤ end
+    → Running s m l at from end m l at from
+running_start u h = record {
+  upto = h;
+  same = record { pivots = refl; shareds = refl };
+  further = record { underway = u; reached = λ ms start answers first t. t };
 }
 
-module _ {is ks cs₀ ws₀ ss₀ ps₀ ts₀ : List ℕ} {at₀ : Slide} {from end : ℕ} {cs ws ss ps ts : List ℕ} {at : Slide} {j : ℕ}
-    (r : Running is ks cs₀ ws₀ ss₀ ps₀ ts₀ at₀ from end cs ws ss ps ts at j) where
-  pub running_block : {cs' ws' ss' ps' ts' : List ℕ} {at' : Slide} {k : ℕ} → k ≤ end → Further is ks cs ps ts at j cs' ws' ss' ps' ts' at' k
-      → Kept cs ws ss ps ts cs' ws' ss' ps' ts' → Running is ks cs₀ ws₀ ss₀ ps₀ ts₀ at₀ from end cs' ws' ss' ps' ts' at' k
-  running_block l f e = record {
-    upto = l;
-    kept = record {
-      counts = e.counts ∙ r.kept.counts;
-      words = e.words ∙ r.kept.words;
-      summary = e.summary ∙ r.kept.summary;
-      pivots = e.pivots ∙ r.kept.pivots;
-      shareds = e.shareds ∙ r.kept.shareds;
-    };
-    further = record { underway = f.underway; reached = λ ms start answers p t x. f.reached ms start answers p t (r.further.reached ms start answers p t x) };
+module _ {s : Steps} {m₀ : MapperLists} {l₀ : Looks} {at₀ : Slide} {from end : ℕ} {m : MapperLists} {l : Looks} {at : Slide} {j : ℕ}
+    (r : Running s m₀ l₀ at₀ from end m l at j) where
+  pub running_block : {m' : MapperLists} {l' : Looks} {at' : Slide} {k : ℕ} → k ≤ end → Further s m l at j m' l' at' k
+      → SameLooks l l' → Running s m₀ l₀ at₀ from end m' l' at' k
+  running_block h f e = record {
+    upto = h;
+    same = record { pivots = e.pivots ∙ r.same.pivots; shareds = e.shareds ∙ r.same.shareds };
+    further = record { underway = f.underway; reached = λ ms start answers first x. f.reached ms start answers first (r.further.reached ms start answers first x) };
   }
 
-  pub running_step : j < end → end ≤ length is → {cs' ws' ss' : List ℕ} {at' : Slide} → Stepped cs ws ss at (get_or ks j 0) (get_or is j 0) cs' ws' ss' at'
-      → length cs' ≡ length cs → length ws' ≡ length ws → length ss' ≡ length ss
-      → Running is ks cs₀ ws₀ ss₀ ps₀ ts₀ at₀ from end cs' ws' ss' (set ps j at'.pivot.0) (set ts j at'.shared) at' (j + 1)
-  running_step l h {cs'} {ws'} {ss'} {at'} m a b c =
+  pub running_step : j < end → end ≤ length s.indexes.now → {m' : MapperLists} {l' : Looks} {at' : Slide}
+      → Stepped m at (kind_of (get_or s.kinds.now j 0)) (get_or s.indexes.now j 0) m' at' → SameLooks l l' → Put l j at' l'
+      → Running s m₀ l₀ at₀ from end m' l' at' (j + 1)
+  running_step h g {m'} {l'} {at'} d e p =
       let u = r.further.underway in
-      let n : j < length is = omega arith in
-      running_block (omega arith) (record { underway = next_underway u n m a; reached = next_reached u n m })
-      (record { counts = a; words = b; summary = c; pivots = length-set ps j at'.pivot.0; shareds = length-set ts j at'.shared })
+      let n : j < length s.indexes.now = omega arith in
+      running_block (omega arith) (record { underway = next_underway u n d p; reached = next_reached u n d p }) e
 
   -- all of them
-  pub running_all : end ≤ j → Further is ks cs₀ ps₀ ts₀ at₀ from cs ws ss ps ts at end
-  running_all l =
+  pub running_all : end ≤ j → Further s m₀ l₀ at₀ from m l at end
+  running_all h =
       let e : j ≡ end = omega (arith, r.upto) in
-      subst (λ (k : ℕ). Further is ks cs₀ ps₀ ts₀ at₀ from cs ws ss ps ts at k) e r.further
+      subst (λ (k : ℕ). Further s m₀ l₀ at₀ from m l at k) e r.further
 
 -- a run from the first step to the last
-pub further_whole : {is ks cs₀ ps₀ ts₀ cs ws ss ps ts : List ℕ} {at₀ at : Slide} → Further is ks cs₀ ps₀ ts₀ at₀ 0 cs ws ss ps ts at (length is)
-    → Answered (look_of at₀) (looks_from (flags_of cs₀) is ks (slide_of cs₀ at₀)) ps₀ ts₀ ps ts (look_of at)
+pub further_whole : {s : Steps} {m₀ m : MapperLists} {l₀ l : Looks} {at₀ at : Slide} → Further s m₀ l₀ at₀ 0 m l at (length s.indexes.now)
+    → Answered (look_of at₀) (looks_from (flags_of m₀.counts.now) s.indexes.now s.kinds.now (slide_of m₀.counts.now at₀)) l₀ l (look_of at)
 unfolding last_or
-further_whole {is} {ks} {cs₀} {ps₀} {ts₀} {cs} {ws} {ss} {ps} {ts} {at₀} {at} f =
-    let ms = flags_of cs₀ in
-    let whole = looks_from ms is ks (slide_of cs₀ at₀) in
-    let t : Reached ms is ks (look_of at₀) whole ps₀ ts₀ cs ps ts at (length is) =
-    f.reached ms (look_of at₀) whole ps₀ ts₀ (record { done = []; many = refl; flags = refl; rest = refl; answered = record { pivots = refl; shareds = refl; last = refl } }) in
+further_whole {s} {m₀} {m} {l₀} {l} {at₀} {at} f =
+    let is = s.indexes.now in
+    let ms = flags_of m₀.counts.now in
+    let whole = looks_from ms is s.kinds.now (slide_of m₀.counts.now at₀) in
+    let t : Reached ms s (look_of at₀) whole l₀ m l at (length is) =
+    f.reached ms (look_of at₀) whole l₀ (record { done = []; many = refl; flags = refl; rest = refl; answered = record { pivots = refl; shareds = refl; last = refl } }) in
     let all : t.done ≡ whole =
-    sym (append-nil t.done) ∙ ap (λ (x : List Look). t.done ++ x) (sym (looks_none ms is ks (length is) (slide_of cs at) (omega arith))) ∙ t.rest in
-    subst (λ (x : List Look). Answered (look_of at₀) x ps₀ ts₀ ps ts (look_of at)) all t.answered
+    sym (append-nil t.done) ∙ ap (λ (x : List Look). t.done ++ x) (sym (looks_none ms is s.kinds.now (length is) (slide_of m.counts.now at) (omega arith))) ∙ t.rest in
+    subst (λ (x : List Look). Answered (look_of at₀) x l₀ l (look_of at)) all t.answered

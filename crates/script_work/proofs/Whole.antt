@@ -2,68 +2,68 @@
 use mathlib.Core.Path.{◌≡◌, sym, ap, ◌∙◌, subst}
 use mathlib.Core.Bool.{Bool}
 use mathlib.Core.List.{List}
-use Prim.Native.Nat.{ℕ}
+use Prim.Native.Nat.{ℕ, ◌<◌}
 use native.Mathlib.Omega.{arith}
-use lib.ListN.{length, get_or, replicate, length-replicate}
+use lib.ListN.{length, get_or, replicate}
+use Rattle.base.specs.Lists.{All}
 use Rattle.base.proofs.Lists.{zeros_at}
-use Rattle.rules.specs.Checks.{ceil64}
 use Rattle.rules.specs.Script.{Look, look, looks, no_counts}
 use Rattle.rules.specs.Moves.{marks, begin, slide_look, looks_by_moves}
 use Rattle.rules.specs.Moves as moves
 use Rattle.rules.proofs.Script.{begin_slid, slid_look, looks_by_moves_lem}
-use Rattle.slide_mapper.specs.declared.Slide.{Slide}
+use Rattle.base.specs.declared.Slide.{Slide}
 use Rattle.slide_mapper.specs.State.{flags_of, counts_of, slide_of}
-use Rattle.script_work.specs.Work.{script_of, Sound, Steps, Accepted, Exact, Clear, Begun, look_of, looks_from, Start, Answered}
+use Rattle.slide_mapper.specs.declared.lists.MapperLists.{MapperLists}
+use Rattle.script_work.specs.declared.asked.Query.{Query}
+use Rattle.script_work.specs.declared.asked.Steps.{Steps}
+use Rattle.script_work.specs.declared.looks.Looks.{Looks}
+use Rattle.script_work.specs.Work.{asked, Outputs, Exact, Clear, Begun, look_of, looks_from, Start, Answered}
 
--- ---- the work lists
+-- ---- lists of the work lists' sizes that were cleared whole
 
-module _ {m : ℕ} {cs ws ss : List ℕ} where
-  pub clear_exact : Clear m cs ws ss → Exact m cs ws ss
-  clear_exact c = record {
-    counts = ap length c.counts ∙ length-replicate m 0;
-    words = ap length c.words ∙ length-replicate (ceil64 m) 0;
-    summary = ap length c.summary ∙ length-replicate (ceil64 (ceil64 m)) 0;
-  }
-
-  module _ (x : Exact m cs ws ss) {cs' ws' ss' : List ℕ} where
-    pub exact_kept : length cs' ≡ length cs → length ws' ≡ length ws → length ss' ≡ length ss → Exact m cs' ws' ss'
-    exact_kept a b c = record { counts = a ∙ x.counts; words = b ∙ x.words; summary = c ∙ x.summary }
-
-    -- lists that were cleared whole
-    pub exact_clear : cs' ≡ replicate (length cs) 0 → ws' ≡ replicate (length ws) 0 → ss' ≡ replicate (length ss) 0 → Clear m cs' ws' ss'
-    exact_clear a b c = record {
-      counts = a ∙ ap (λ (n : ℕ). replicate n 0) x.counts;
-      words = b ∙ ap (λ (n : ℕ). replicate n 0) x.words;
-      summary = c ∙ ap (λ (n : ℕ). replicate n 0) x.summary;
-    }
+pub exact_clear : {m : ℕ} {cs ws ss cs' ws' ss' : List ℕ} (xs ys zs : List ℕ) → Exact m cs ws ss
+    → cs' ≡ replicate (length xs) 0 → ws' ≡ replicate (length ys) 0 → ss' ≡ replicate (length zs) 0 → length xs ≡ length cs → length ys ≡ length ws → length zs ≡ length ss
+    → Clear m cs' ws' ss'
+exact_clear xs ys zs x a b c p q r = record {
+  counts = a ∙ ap (λ (n : ℕ). replicate n 0) (p ∙ x.counts);
+  words = b ∙ ap (λ (n : ℕ). replicate n 0) (q ∙ x.words);
+  summary = c ∙ ap (λ (n : ℕ). replicate n 0) (r ∙ x.summary);
+}
 
 -- ---- from the state before the first step
 
-module _ {query coords indexes kinds cs ws ss : List ℕ} {at : Slide} {ps ts : List ℕ} (a : Accepted (script_of query coords indexes kinds) ps ts) (b : Begun query coords cs ws ss at) where
+module _ (q : Query) (s : Steps) (within : All (λ i. i < length q.coords.now) s.indexes.now) {cs ws ss : List ℕ} {at : Slide} (b : Begun q.hashes.now q.coords.now cs ws ss at) where
   no_count : (i : ℕ) → get_or (counts_of cs) i 0 ≡ 0
   unfolding slide_of begin no_counts
-  no_count i = ap (λ (x : moves.Slide). get_or x.counts i 0) b.slide ∙ zeros_at (length coords) i
+  no_count i = ap (λ (x : moves.Slide). get_or x.counts i 0) b.slide ∙ zeros_at (length q.coords.now) i
 
-  pub start_run : length cs ≡ length coords → Start indexes kinds cs ws ss ps ts at
-  start_run e = record { ready = b.ready; few = λ i. omega (arith, no_count i); steps = subst (λ (m : ℕ). Steps m indexes kinds) (sym e) a.steps; outputs = a.outputs }
-
-  abbrev s : Sound query coords
-  s = a.sound
-
-  first_look : look_of at ≡ look query coords (no_counts coords)
+  first_look : look_of at ≡ look q.hashes.now q.coords.now (no_counts q.coords.now)
   unfolding slide_look slide_of begin
   first_look =
+      let k = q.sound in
       ap slide_look b.slide ∙
-      slid_look query coords s.query_asc s.coords_asc s.within s.some (begin query coords) (begin_slid query coords s.query_asc s.coords_asc s.within s.some)
+      slid_look q.hashes.now q.coords.now k.query_asc k.coords_asc k.within k.some (begin q.hashes.now q.coords.now)
+      (begin_slid q.hashes.now q.coords.now k.query_asc k.coords_asc k.within k.some)
 
-  all_looks : looks_from (flags_of cs) indexes kinds (slide_of cs at) ≡ looks (script_of query coords indexes kinds)
+  all_looks : looks_from (flags_of cs) s.indexes.now s.kinds.now (slide_of cs at) ≡ looks (asked q s)
   unfolding looks_from looks_by_moves
   all_looks =
-      ap (λ (ms : List Bool). looks_from ms indexes kinds (slide_of cs at)) b.flags ∙ ap (looks_from (marks query coords) indexes kinds) b.slide ∙
-      looks_by_moves_lem (script_of query coords indexes kinds) s.query_asc s.coords_asc s.within s.some a.steps.within
+      let k = q.sound in
+      ap (λ (ms : List Bool). looks_from ms s.indexes.now s.kinds.now (slide_of cs at)) b.flags ∙
+      ap (looks_from (marks q.hashes.now q.coords.now) s.indexes.now s.kinds.now) b.slide ∙
+      looks_by_moves_lem (asked q s) k.query_asc k.coords_asc k.within k.some within
 
-  pub run_answers : {ps' ts' : List ℕ} {r : Slide} → Answered (look_of at) (looks_from (flags_of cs) indexes kinds (slide_of cs at)) ps ts ps' ts' (look_of r)
-      → Answered (look query coords (no_counts coords)) (looks (script_of query coords indexes kinds)) ps ts ps' ts' (look_of r)
-  run_answers {ps'} {ts'} {r} done =
-      subst (λ (x : Look). Answered x (looks (script_of query coords indexes kinds)) ps ts ps' ts' (look_of r)) first_look
-      (subst (λ (x : List Look). Answered (look_of at) x ps ts ps' ts' (look_of r)) all_looks done)
+  pub run_answers : {l l' : Looks} {r : Slide} → Answered (look_of at) (looks_from (flags_of cs) s.indexes.now s.kinds.now (slide_of cs at)) l l' (look_of r)
+      → Answered (look q.hashes.now q.coords.now (no_counts q.coords.now)) (looks (asked q s)) l l' (look_of r)
+  run_answers {l} {l'} {r} done =
+      subst (λ (x : Look). Answered x (looks (asked q s)) l l' (look_of r)) first_look
+      (subst (λ (x : List Look). Answered (look_of at) x l l' (look_of r)) all_looks done)
+
+pub start_run : (q : Query) (s : Steps) → All (λ i. i < length q.coords.now) s.indexes.now → {m : MapperLists} {at : Slide} {l : Looks}
+    → Begun q.hashes.now q.coords.now m.counts.now m.words.now m.summary.now at → Outputs (length s.indexes.now) l → length m.counts.now ≡ length q.coords.now → Start s m l at
+start_run q s within b o e = record {
+  at_pivot = record { slid = b.ready.slid };
+  few = λ i. omega (arith, no_count q s within b i);
+  within = subst (λ (n : ℕ). All (λ i. i < n) s.indexes.now) (sym e) within;
+  outputs = o;
+}

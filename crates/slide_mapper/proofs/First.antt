@@ -12,7 +12,7 @@ use Rattle.base.specs.Pick.{pick}
 use Rattle.base.specs.Nearest.{LastBelow, NoneBelow}
 use Rattle.base.specs.Counting.{count}
 use Rattle.base.proofs.Lists.{zeros_at}
-use Rattle.base.proofs.Order.{lt_or_ge, eq_or_ne}
+use Rattle.std.proofs.lemmas.Bool.{cases_lt, cases_eq}
 use Rattle.base.proofs.Counting.{count-zero, count_next, count_same, count_none}
 use Rattle.rules.specs.Ranks.{either, both, mark, has, size}
 use Rattle.summary_bits.specs.Bits.{bit, bit_at, with_on}
@@ -54,11 +54,11 @@ gathered_more {cs} {from} {i} {j} {x} {y} s g h e l m = record {
       ⊎_elim (λ (u : b < s). omega (arith, bit_or_lem x z b, g.inside b (omega arith), shifted_low y s b u (omega arith)))
       (λ (u : s ≤ b).
       omega (arith, bit_or_lem x z b, g.past b (omega arith), ap (bit z) (up b u), shifted y s (b - s) (omega arith), h.inside (b - s) (omega arith), ap (λ (n : ℕ). get_or cs n 0) (place b u)))
-      (lt_or_ge b s);
+      (cases_lt b s);
   past = λ b k.
       ⊎_elim
       (λ (u : b < 64). omega (arith, bit_or_lem x z b, g.past b (omega arith), ap (bit z) (up b (omega arith)), shifted y s (b - s) (omega arith), h.past (b - s) (omega arith)))
-      (λ (u : 64 ≤ b). omega (arith, bit_or_lem x z b, g.past b (omega arith), shifted_out y s b u)) (lt_or_ge b 64);
+      (λ (u : 64 ≤ b). omega (arith, bit_or_lem x z b, g.past b (omega arith), shifted_out y s b u)) (cases_lt b 64);
 }
   where
     z : ℕ
@@ -126,18 +126,18 @@ module _ {cs ws₀ ss₀ : List ℕ} (b : Blank cs ws₀ ss₀) where
         here j k =
             let back : w * 64 + j % 64 ≡ j = omega (arith, k) in
             ⊎_elim (λ (a : j < length cs). g.inside (j % 64) (omega (arith, e, back)) ∙ ap (λ (n : ℕ). get_or cs n 0) back)
-            (λ (a : length cs ≤ j). g.past (j % 64) (omega (arith, e, back)) ∙ sym (get_or-eq_default cs 0 a)) (lt_or_ge j (length cs))
+            (λ (a : length cs ≤ j). g.past (j % 64) (omega (arith, e, back)) ∙ sym (get_or-eq_default cs 0 a)) (cases_lt j (length cs))
 
         done_more : (j : ℕ) → j < (w + 1) * 64 → bit_at (set ws w x) j ≡ get_or cs j 0
         done_more j k =
             ⊎_elim (λ (a : j / 64 ≡ w). stored_here ws w x j (filled_in l) a ∙ here j a)
-            (λ (a : j / 64 ≢ w). stored_elsewhere ws w x j a ∙ m.done j (omega arith)) (eq_or_ne (j / 64) w)
+            (λ (a : j / 64 ≢ w). stored_elsewhere ws w x j a ∙ m.done j (omega arith)) (cases_eq (j / 64) w)
 
     pub filled_all : length cs ≤ w * 64 → Marked cs ws₀ ss₀ ws ss
     filled_all l = record {
       done = λ j k. m.done j (omega arith);
       rest = λ j k.
-          ⊎_elim (λ (a : j < w * 64). m.done j a ∙ get_or-eq_default cs 0 k) (λ (a : w * 64 ≤ j). bit_at-zero ws j (m.rest (j / 64) (omega arith))) (lt_or_ge j (w * 64));
+          ⊎_elim (λ (a : j < w * 64). m.done j a ∙ get_or-eq_default cs 0 k) (λ (a : w * 64 ≤ j). bit_at-zero ws j (m.rest (j / 64) (omega arith))) (cases_lt j (w * 64));
       summary = m.summary;
       words_len = m.words_len;
       summary_len = m.summary_len;
@@ -154,7 +154,7 @@ module _ {cs ws₀ ss₀ : List ℕ} (b : Blank cs ws₀ ss₀) where
     bits_are : (j : ℕ) → bit_at ws j ≡ either (mark (flags_of cs)) (has (counts_of cs)) j
     bits_are j =
         ⊎_elim (λ (l : j < length cs). omega (arith, m.done j l, flag_is j, none_active j))
-        (λ (l : length cs ≤ j). omega (arith, m.rest j l, flag_is j, get_or-eq_default cs 0 l, none_active j)) (lt_or_ge j (length cs))
+        (λ (l : length cs ≤ j). omega (arith, m.rest j l, flag_is j, get_or-eq_default cs 0 l, none_active j)) (cases_lt j (length cs))
 
     same_size : (n : ℕ) → count (bit_at ws) n ≡ count (mark (flags_of cs)) n
     same_size n = count_same (mark (flags_of cs)) (bit_at ws) n (λ j. omega (arith, bits_are j, none_active j))

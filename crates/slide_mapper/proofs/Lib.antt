@@ -1,3 +1,4 @@
 pub mod State
 pub mod Marked
 pub mod First
+pub mod Lent

@@ -16,7 +16,7 @@ use Rattle.base.specs.Lists.{hit}
 use Rattle.base.specs.Nearest.{LastBelow, NoneBelow, FirstFrom, NoneFrom}
 use Rattle.base.specs.Counting.{Same}
 use Rattle.base.proofs.Lists.{hit_same, hit_other}
-use Rattle.base.proofs.Order.{lt_or_ge}
+use Rattle.std.proofs.lemmas.Bool.{cases_lt}
 use Rattle.base.proofs.Counting.{count_most, count_up, count_next}
 use Rattle.base.proofs.Nearest.{last_unique, last_not_none, last_same, first_unique, first_same}
 use Rattle.rules.specs.Moves.{insert_ref, delete_ref, in_query, in_union, is_shared, before, after}
@@ -28,7 +28,7 @@ use Rattle.summary_bits.specs.Bits.{bit_at, with_on, with_off}
 use Rattle.summary_bits.specs.Summary.{Fits, Summary, raised, lowered}
 use Rattle.summary_bits.proofs.Words.{on_length, on_here, on_elsewhere, off_length, off_here, off_elsewhere}
 use Rattle.summary_bits.proofs.Kept.{raised-length, lowered-length, summary_set, summary_clear}
-use Rattle.slide_mapper.specs.declared.Slide.{Slide}
+use Rattle.base.specs.declared.Slide.{Slide}
 use Rattle.slide_mapper.specs.State.{flags_of, counts_of, shared_bit, slide_of, Held, Ready, Inserted, Deleted}
 
 -- ---- how a count word reads
@@ -282,8 +282,8 @@ module _ {cs ws ss : List ℕ} {at : Slide} (k : Ready cs ws ss at) (i : ℕ) (l
   pub inserted_high : at.pivot.0 < i → Inserted cs ws ss at i more (with_on ws i) (raised ws ss i) at
   inserted_high h =
       ⊎_elim (λ (g : 1 < w). inserted_again g)
-      (λ (g : w ≤ 1). ⊎_elim (λ (z : w < 1). inserted_other_high (omega arith) h) (λ (z : 1 ≤ w). inserted_query_high (omega arith) h) (lt_or_ge w 1))
-      (lt_or_ge 1 w)
+      (λ (g : w ≤ 1). ⊎_elim (λ (z : w < 1). inserted_other_high (omega arith) h) (λ (z : 1 ≤ w). inserted_query_high (omega arith) h) (cases_lt w 1))
+      (cases_lt 1 w)
 
 -- ---- delete
 
@@ -395,7 +395,7 @@ module _ {cs ws ss : List ℕ} {at : Slide} (k : Ready cs ws ss at) (i : ℕ) (l
           ⊎_elim (λ (x : r < length cs). x)
           (λ (x : length cs ≤ r).
           absurd (omega (arith, less_held.bits r, mark_past (flags_of less) r (omega (arith, flags_length less, length-set cs i (get_or cs i 0 - 2))), has_past (counts_of less) r (omega (arith, counts_length less, length-set cs i (get_or cs i 0 - 2))))))
-          (lt_or_ge r (length cs))
+          (cases_lt r (length cs))
 
       low-length : length low ≡ length cs
       low-length = length-set (counts_of cs) i (get_or (counts_of cs) i 0 - 1) ∙ counts_length cs
@@ -449,7 +449,7 @@ module _ {cs ws ss : List ℕ} {at : Slide} (k : Ready cs ws ss at) (i : ℕ) (l
     one_taken h = te ∙ rw (le-ltb (get_or cs i 0) 2 h)
 
     pub took_le : t ≤ get_or cs i 0
-    took_le = ⊎_elim (λ (h : get_or cs i 0 < 2). omega (arith, none_taken h)) (λ (h : 2 ≤ get_or cs i 0). omega (arith, one_taken h)) (lt_or_ge (get_or cs i 0) 2)
+    took_le = ⊎_elim (λ (h : get_or cs i 0 < 2). omega (arith, none_taken h)) (λ (h : 2 ≤ get_or cs i 0). omega (arith, one_taken h)) (cases_lt (get_or cs i 0) 2)
 
     took_none : get_or cs i 0 < 2 → set cs i (get_or cs i 0 - t) ≡ cs
     took_none h =
@@ -491,9 +491,9 @@ module _ {cs ws ss : List ℕ} {at : Slide} (k : Ready cs ws ss at) (i : ℕ) (l
           ⊎_elim (λ (b : get_or cs i 0 < 3). gone_as (omega arith) (deleted_other_high (omega arith) (omega arith) h))
           (λ (b : 3 ≤ get_or cs i 0).
           ⊎_elim (λ (d : 3 < get_or cs i 0). flat_again d)
-          (λ (d : get_or cs i 0 ≤ 3). kept_as (took_one (omega arith)) (omega arith) (deleted_query_high (omega arith) (omega arith) h)) (lt_or_ge 3 (get_or cs i 0)))
-          (lt_or_ge (get_or cs i 0) 3))
-          (lt_or_ge (get_or cs i 0) 2)
+          (λ (d : get_or cs i 0 ≤ 3). kept_as (took_one (omega arith)) (omega arith) (deleted_query_high (omega arith) (omega arith) h)) (cases_lt 3 (get_or cs i 0)))
+          (cases_lt (get_or cs i 0) 3))
+          (cases_lt (get_or cs i 0) 2)
 
 -- ---- what a move leaves is ready for the next
 

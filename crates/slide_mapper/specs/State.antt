@@ -5,7 +5,7 @@ use Rattle.rules.specs.Moves as moves
 use Rattle.rules.specs.Ranks.{either, mark, has, size, Slid}
 use Rattle.summary_bits.specs.Bits.{bit, bit_at}
 use Rattle.summary_bits.specs.Summary.{Fits, Summary}
-use Rattle.slide_mapper.specs.declared.Slide.{Slide}
+use Rattle.base.specs.declared.Slide.{Slide}
 
 -- a count word is twice the count, plus 1 where the hash is in the query
 unfoldable pub flags_of : List ℕ → List Bool

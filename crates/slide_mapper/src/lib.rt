@@ -3,50 +3,24 @@
 // union's bits with their summary; and by value the pivot with the shared count.
 #![tactic(auto)]
 
+pub mod lists;
+
 ghost use Rattle.std.specs.Prelude.{◌≡◌, ℕ, ◌+◌, ◌^◌, ◌≤◌, ◌<◌, min, ltb, length, get_or};
 ghost use Rattle.base.specs.Pick.{pick};
 ghost use Rattle.base.specs.Lists.{hit};
 ghost use Rattle.slide_mapper.specs.State.{Gathered, Blank, Ready, Inserted, Deleted, shared_bit};
 
-use base::Coord;
-use summary_bits::Found;
-
-// The union's k-th smallest coordinate, and how many coordinates through it are in the query and active.
-#[derive(Clone, Copy)]
-pub struct Slide {
-    pub pivot: Coord,
-    pub shared: u32,
-}
-
-fn least(a: usize, b: usize) -> usize
-    ensures { result ≡ min a b }
-{
-    if a < b { a } else { b }
-}
+use base::{Coord, Slide};
 
 // Four count words from i on, each 0 or 1, as the bits of a number.
 fn four_of(counts: &[u32], i: usize) -> u64
     requires { (i + 4 ≤ length counts.now) × ((j : ℕ) → get_or counts.now j 0 ≤ 1) }
     ensures { Gathered counts.now i (i + 4) result }
 {
-    counts[i] as u64
-        | ((counts[i + 1] as u64) << 1)
-        | ((counts[i + 2] as u64) << 2)
-        | ((counts[i + 3] as u64) << 3)
-}
-
-// The word of the count words from `from` to `end`, of which those before `start` stand in `word`, one to a turn.
-fn gathered_rest(counts: &[u32], from: usize, start: usize, end: usize, word: u64) -> u64
-    requires { (from ≤ start) × (start ≤ end) × (end ≤ from + 64) × (end ≤ length counts.now) × ((j : ℕ) → get_or counts.now j 0 ≤ 1) × Gathered counts.now from start word }
-    ensures { Gathered counts.now from end result }
-{
-    let mut all = word;
-    let mut i = start;
-    while i < end {
-        all = all | ((counts[i] as u64) << (i - from));
-        i += 1;
-    }
-    all
+    u64::from(counts[i])
+        | (u64::from(counts[i + 1]) << 1)
+        | (u64::from(counts[i + 2]) << 2)
+        | (u64::from(counts[i + 3]) << 3)
 }
 
 // The count words from `from` to `end`, each 0 or 1, as the bits of one word. Four to a turn: a turn costs more than the words it takes.
@@ -57,10 +31,13 @@ fn gathered(counts: &[u32], from: usize, end: usize) -> u64
     let mut word: u64 = 0;
     let mut i = from;
     while i + 4 <= end {
-        word = word | (four_of(counts, i) << (i - from));
+        word |= four_of(counts, i) << (i - from);
         i += 4;
     }
-    gathered_rest(counts, from, i, end, word)
+    for j in i..end {
+        word |= u64::from(counts[j]) << (j - from);
+    }
+    word
 }
 
 // The state before the first item: no hash is active, so the union is the query, whose flags stand in the count words. Its bits are stored
@@ -70,22 +47,15 @@ pub fn begin(counts: &[u32], words: &mut [u64], summary: &mut [u64]) -> Slide
     ensures { (result.shared ≡ 0) × Ready counts.now words.new summary.new result }
 {
     let n = counts.len();
-    let mut w = 0;
-    while w * 64 < n {
+    for w in 0..n.div_ceil(64) {
         let from = w * 64;
-        let end = least(from + 64, n);
+        let end = (from + 64).min(n);
         summary_bits::store(words, summary, w, gathered(counts, from, end));
-        w += 1;
     }
-    match summary_bits::prev_set_before(words, summary, Coord(n as u32)) {
-        Found::At(last) => Slide {
-            pivot: Coord(last as u32),
-            shared: 0,
-        },
-        Found::Nothing => Slide {
-            pivot: Coord(0),
-            shared: 0,
-        },
+    let last = summary_bits::prev_set_before(words, summary, Coord(n as u32)).unwrap();
+    Slide {
+        pivot: Coord(last as u32),
+        shared: 0,
     }
 }
 
@@ -95,30 +65,28 @@ fn shared_bit(counts: &[u32], coord: Coord) -> u32
     ensures { result ≡ shared_bit counts.now coord.0 }
 {
     let word = counts[coord.0 as usize];
-    if word < 2 {
-        return 0;
-    }
-    word % 2
+    if word < 2 { 0 } else { word % 2 }
 }
 
 // What a delete takes from a count word: one count, where there is one.
+#[tactic(auto, using(std::proofs::lemmas::Bool::Decides::nat_tests), unfolding(base::specs::Pick::pick))]
 fn taken(word: u32) -> u32
     ensures { result ≡ pick (ltb word 2) 0 2 }
 {
-    if word < 2 { // no count to lower
-        return 0;
-    }
-    2
+    if word < 2 { 0 } else { 2 }
 }
 
 // 1 where the delete takes the hash out of the union, which is at the last count of a hash that is not in the query; else 0.
+#[tactic(auto, using(std::proofs::lemmas::Bool::Decides::nat_tests), unfolding(base::specs::Lists::hit))]
 fn one_if_last(word: u32) -> u64
     ensures { result ≡ hit word 2 }
 {
-    if word == 2 { 1 } else { 0 }
+    u64::from(word == 2)
 }
 
-pub fn insert_ref(
+// The moves over the slices: between the writes of a move the lists do not agree, and at each write through the struct the check would ask
+// that they do.
+fn insert_ref(
     counts: &mut [u32],
     words: &mut [u64],
     summary: &mut [u64],
@@ -133,32 +101,28 @@ pub fn insert_ref(
     counts[i] = word + 2;
     // Set also where it is set already: a test of the count is guessed wrong too often.
     summary_bits::set(words, summary, coord);
-    let pivot = at.pivot;
-    if pivot.0 < coord.0 {
+    if at.pivot.0 < coord.0 {
         return at;
     }
     if 1 < word {
         return at;
     }
-    let shared = at.shared;
     if word == 1 {
         return Slide {
-            pivot,
-            shared: shared + 1,
+            shared: at.shared + 1,
+            ..at
         };
     }
     // Tested before the pivot moves: the old pivot leaves the k smallest.
-    let lost = shared_bit(counts, pivot);
-    match summary_bits::prev_set_before(words, summary, pivot) {
-        Found::At(before) => Slide {
-            pivot: Coord(before as u32),
-            shared: shared - lost,
-        },
-        Found::Nothing => at,
+    let lost = shared_bit(counts, at.pivot);
+    let before = summary_bits::prev_set_before(words, summary, at.pivot).unwrap();
+    Slide {
+        pivot: Coord(before as u32),
+        shared: at.shared - lost,
     }
 }
 
-pub fn delete_ref(
+fn delete_ref(
     counts: &mut [u32],
     words: &mut [u64],
     summary: &mut [u64],
@@ -173,8 +137,7 @@ pub fn delete_ref(
     counts[i] = word - taken(word);
     // By a number and with no branch, as the bit of an insert.
     summary_bits::clear_if(words, summary, coord, one_if_last(word));
-    let pivot = at.pivot;
-    if pivot.0 < coord.0 {
+    if at.pivot.0 < coord.0 {
         return at;
     }
     if word < 2 {
@@ -183,22 +146,17 @@ pub fn delete_ref(
     if 3 < word {
         return at;
     }
-    let shared = at.shared;
     if word == 3 {
         return Slide {
-            pivot,
-            shared: shared - 1,
+            shared: at.shared - 1,
+            ..at
         };
     }
-    match summary_bits::next_set_after(words, summary, pivot) {
-        Found::At(after) => {
-            let next = Coord(after as u32);
-            let won = shared_bit(counts, next);
-            Slide {
-                pivot: next,
-                shared: shared + won,
-            }
-        }
-        Found::Nothing => at,
+    let after = summary_bits::next_set_after(words, summary, at.pivot).unwrap();
+    let next = Coord(after as u32);
+    let won = shared_bit(counts, next);
+    Slide {
+        pivot: next,
+        shared: at.shared + won,
     }
 }

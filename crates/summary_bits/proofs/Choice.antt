@@ -13,7 +13,7 @@ use lib.Seq.{set-get_or}
 use lib.Pow.{pow_pos}
 use Rattle.base.specs.Pick.{pick}
 use Rattle.base.proofs.Checks.{eq_stop, eq_skip}
-use Rattle.base.proofs.Order.{eq_or_ne}
+use Rattle.std.proofs.lemmas.Bool.{cases_eq}
 use Rattle.summary_bits.specs.Bits.{bit, bit_at, off_bit, with_off}
 use Rattle.summary_bits.specs.Summary.{Summary, lowered}
 use Rattle.summary_bits.proofs.Number.{one_shl, bit_le, bit_of_zero, bit_and_lem, bit_not, bit-pow_same, bits_ext, off_le, off_same, off_other}
@@ -27,7 +27,7 @@ off_unset : (x b : ℕ) → x < 2 ^ 64 → b < 64 → bit x b ≡ 0 → off_bit 
 off_unset x b h l e =
     bits_ext 64 (off_bit x b) x (omega (arith, off_le x b)) h
     (λ k m.
-    ⊎_elim (λ (q : k ≡ b). subst (λ (n : ℕ). bit (off_bit x b) n ≡ bit x n) (sym q) (off_same x b l ∙ sym e)) (λ (n : k ≢ b). off_other x b k l m n) (eq_or_ne k b))
+    ⊎_elim (λ (q : k ≡ b). subst (λ (n : ℕ). bit (off_bit x b) n ≡ bit x n) (sym q) (off_same x b l ∙ sym e)) (λ (n : k ≢ b). off_other x b k l m n) (cases_eq k b))
 
 -- clearing a bit that is off changes nothing
 off_absent : (ws : List ℕ) (i : ℕ) → get_or ws (i / 64) 0 < 2 ^ 64 → bit_at ws i ≡ 0 → with_off ws i ≡ ws

@@ -11,7 +11,7 @@ use lib.Bits.{bit_and, bit_or, or_shr, or_mod, and_shr, and_mod, shifted_half, s
 use lib.Count.{count_leading_zeros, count_trailing_zeros, under, leading_top}
 use Rattle.summary_bits.specs.Bits.{bit, on_bit, off_bit}
 use Rattle.base.specs.Nearest.{LastBelow, NoneBelow, FirstFrom, NoneFrom}
-use Rattle.base.proofs.Order.{lt_or_ge}
+use Rattle.std.proofs.lemmas.Bool.{cases_lt}
 
 pub bit_le : (x k : ℕ) → bit x k ≤ 1
 unfolding bit
@@ -151,7 +151,7 @@ unfolding bit
 bit_above a n k h l = ap (λ (m : ℕ). m % 2) (div-eq_of_lt (lt_of_lt_of_le h (pow_mono l)))
 
 pub on_lt : (x k : ℕ) → x < 2 ^ 64 → bit x k ≡ 1 → k < 64
-on_lt x k h e = ⊎_elim (λ (l : k < 64). l) (λ (l : 64 ≤ k). absurd (omega (arith, bit_above x 64 k h l))) (lt_or_ge k 64)
+on_lt x k h e = ⊎_elim (λ (l : k < 64). l) (λ (l : 64 ≤ k). absurd (omega (arith, bit_above x 64 k h l))) (cases_lt k 64)
 
 pub top_near : (x : ℕ) → 0 < x → x < 2 ^ 64 → count_leading_zeros 64 x < 64
 top_near x p h = omega (arith, (leading_top 64 x p h).1)
@@ -181,7 +181,7 @@ module _ (x b : ℕ) (hb : b < 64) where
         let J = 63 - count_leading_zeros 64 (x * 2 ^ (63 - b) % 2 ^ 64) in
         let on : bit (x * 2 ^ (63 - b)) J ≡ 1 = sym (bit-mod 64 (x * 2 ^ (63 - b)) J top.below) ∙ top.on in
         let l = leading_top 64 (x * 2 ^ (63 - b) % 2 ^ 64) (omega arith) (mod-lt (x * 2 ^ (63 - b)) (pow_pos 64)) in
-        ⊎_elim (λ (h : J < 63 - b). absurd (omega (arith, bit_shl_low x (63 - b) J h))) (λ (h : 63 - b ≤ J). omega arith) (lt_or_ge J (63 - b))
+        ⊎_elim (λ (h : J < 63 - b). absurd (omega (arith, bit_shl_low x (63 - b) J h))) (λ (h : 63 - b ≤ J). omega arith) (cases_lt J (63 - b))
 
     pub top_upto : LastBelow (bit x) (b + 1) (b - count_leading_zeros 64 (x * 2 ^ (63 - b) % 2 ^ 64))
     top_upto =

@@ -7,52 +7,54 @@ use Prim.Native.Nat.{ℕ, ◌+◌, ◌-◌, ◌*◌, ◌/◌, ◌%◌, ◌^◌, 
 use native.Mathlib.Omega.{arith}
 use lib.Count.{count_leading_zeros, count_trailing_zeros}
 use lib.ListN.{length, get_or, get_or-eq_default}
+use Rattle.std.specs.Prelude.{Option, Some, None, IsSome}
 use Rattle.base.specs.Nearest.{LastBelow, NoneBelow, FirstFrom, NoneFrom}
 use Rattle.base.proofs.Nearest.{last_unique, last_not_none, last_more, first_unique, first_not_none, first_more}
-use Rattle.base.proofs.Order.{lt_or_ge}
-use Rattle.summary_bits.specs.declared.Found.{Found}
-use Rattle.summary_bits.specs.declared.Found.TheVariants.{At, Nothing}
+use Rattle.std.proofs.lemmas.Bool.{cases_lt}
 use Rattle.summary_bits.specs.Bits.{bit, bit_at}
 use Rattle.summary_bits.specs.Summary.{Summary}
 use Rattle.summary_bits.specs.Nearest.{Prev, Next}
 use Rattle.summary_bits.proofs.Number.{on_lt, none_upto, upto_le, top_upto, top_near, top_of, none_from, low_from, low_near, low_of}
 use Rattle.summary_bits.proofs.Words.{bit_in, bit_at_is, bit_at-zero}
 
--- what an answer says, once a match has told which it is
-pub prev_at : {f : ℕ → ℕ} {n : ℕ} {r : Found} {q : ℕ} → r ≡ At q → Prev f n r → LastBelow f n q
-prev_at {f} {n} e p = subst (λ (r : Found). Prev f n r) e p
+-- what an answer that is there says
+pub prev_at : {f : ℕ → ℕ} {n : ℕ} {r : Option ℕ} {q : ℕ} → r ≡ Some q → Prev f n r → LastBelow f n q
+prev_at {f} {n} e p = subst (λ (r : Option ℕ). Prev f n r) e p
 
-pub prev_nothing : (f : ℕ → ℕ) (n : ℕ) {r : Found} → r ≡ Nothing → Prev f n r → NoneBelow f n
-prev_nothing f n e p = subst (λ (r : Found). Prev f n r) e p
+pub next_at : {f : ℕ → ℕ} {n : ℕ} {r : Option ℕ} {q : ℕ} → r ≡ Some q → Next f n r → FirstFrom f n q
+next_at {f} {n} e p = subst (λ (r : Option ℕ). Next f n r) e p
 
-pub next_at : {f : ℕ → ℕ} {n : ℕ} {r : Found} {q : ℕ} → r ≡ At q → Next f n r → FirstFrom f n q
-next_at {f} {n} e p = subst (λ (r : Found). Next f n r) e p
+-- it is there unless nothing is set
+pub prev_some : (f : ℕ → ℕ) (n : ℕ) (r : Option ℕ) → Prev f n r → (NoneBelow f n → ⊥) → IsSome r
+prev_some f n (Some q) a s = refl
+prev_some f n None a s = absurd (s a)
 
-pub next_nothing : (f : ℕ → ℕ) (n : ℕ) {r : Found} → r ≡ Nothing → Next f n r → NoneFrom f n
-next_nothing f n e p = subst (λ (r : Found). Next f n r) e p
+pub next_some : (f : ℕ → ℕ) (n : ℕ) (r : Option ℕ) → Next f n r → (NoneFrom f n → ⊥) → IsSome r
+next_some f n (Some q) a s = refl
+next_some f n None a s = absurd (s a)
 
 -- one answer is right
-pub prev_unique : (f : ℕ → ℕ) (n : ℕ) (r q : Found) → Prev f n r → Prev f n q → r ≡ q
-prev_unique f n (At r) (At q) a b = ap (λ (k : ℕ). At k) (last_unique a b)
-prev_unique f n (At r) Nothing a b = absurd (last_not_none a b)
-prev_unique f n Nothing (At q) a b = absurd (last_not_none b a)
-prev_unique f n Nothing Nothing a b = refl
+pub prev_unique : (f : ℕ → ℕ) (n : ℕ) (r q : Option ℕ) → Prev f n r → Prev f n q → r ≡ q
+prev_unique f n (Some r) (Some q) a b = ap (λ (k : ℕ). Some k) (last_unique a b)
+prev_unique f n (Some r) None a b = absurd (last_not_none a b)
+prev_unique f n None (Some q) a b = absurd (last_not_none b a)
+prev_unique f n None None a b = refl
 
-pub next_unique : (f : ℕ → ℕ) (n : ℕ) (r q : Found) → Next f n r → Next f n q → r ≡ q
-next_unique f n (At r) (At q) a b = ap (λ (k : ℕ). At k) (first_unique a b)
-next_unique f n (At r) Nothing a b = absurd (first_not_none a b)
-next_unique f n Nothing (At q) a b = absurd (first_not_none b a)
-next_unique f n Nothing Nothing a b = refl
+pub next_unique : (f : ℕ → ℕ) (n : ℕ) (r q : Option ℕ) → Next f n r → Next f n q → r ≡ q
+next_unique f n (Some r) (Some q) a b = ap (λ (k : ℕ). Some k) (first_unique a b)
+next_unique f n (Some r) None a b = absurd (first_not_none a b)
+next_unique f n None (Some q) a b = absurd (first_not_none b a)
+next_unique f n None None a b = refl
 
 -- an answer below n is one below m, where no place from n to m is set
-pub prev_more : (f : ℕ → ℕ) (n m : ℕ) → n ≤ m → ((k : ℕ) → n ≤ k → k < m → f k ≡ 0) → (r : Found) → Prev f n r → Prev f m r
-prev_more f n m h none (At q) a = last_more f n m q h none a
-prev_more f n m h none Nothing a = λ k l. ⊎_elim (λ (u : k < n). a k u) (λ (u : n ≤ k). none k u l) (lt_or_ge k n)
+pub prev_more : (f : ℕ → ℕ) (n m : ℕ) → n ≤ m → ((k : ℕ) → n ≤ k → k < m → f k ≡ 0) → (r : Option ℕ) → Prev f n r → Prev f m r
+prev_more f n m h none (Some q) a = last_more f n m q h none a
+prev_more f n m h none None a = λ k l. ⊎_elim (λ (u : k < n). a k u) (λ (u : n ≤ k). none k u l) (cases_lt k n)
 
 -- an answer from m on is one from n on, where no place from n to m is set
-pub next_more : (f : ℕ → ℕ) (n m : ℕ) → n ≤ m → ((k : ℕ) → n ≤ k → k < m → f k ≡ 0) → (r : Found) → Next f m r → Next f n r
-next_more f n m h none (At q) a = first_more f n m q h none a
-next_more f n m h none Nothing a = λ k l. ⊎_elim (λ (u : k < m). none k l u) (λ (u : m ≤ k). a k u) (lt_or_ge k m)
+pub next_more : (f : ℕ → ℕ) (n m : ℕ) → n ≤ m → ((k : ℕ) → n ≤ k → k < m → f k ≡ 0) → (r : Option ℕ) → Next f m r → Next f n r
+next_more f n m h none (Some q) a = first_more f n m q h none a
+next_more f n m h none None a = λ k l. ⊎_elim (λ (u : k < m). none k l u) (λ (u : m ≤ k). a k u) (cases_lt k m)
 
 -- The bits below `end`, of the list: of the word of the bit `last` before it, shifted so that `last` is its top bit.
 module _ (ws : List ℕ) (last end : ℕ) (next : last + 1 ≡ end) where
@@ -136,7 +138,7 @@ module _ (ws ss : List ℕ) (s : Summary ws ss) where
 
   pub word_in : (j : ℕ) → bit_at ss j ≡ 1 → j < length ws
   word_in j e =
-      ⊎_elim (λ (l : j < length ws). l) (λ (l : length ws ≤ j). absurd (omega (arith, word_pos j e, get_or-eq_default ws 0 l))) (lt_or_ge j (length ws))
+      ⊎_elim (λ (l : j < length ws). l) (λ (l : length ws ≤ j). absurd (omega (arith, word_pos j e, get_or-eq_default ws 0 l))) (cases_lt j (length ws))
 
   -- so does the block of a summary word that is not 0
   pub block_in : (b : ℕ) → 0 < get_or ss b 0 → get_or ss b 0 < 2 ^ 64 → b * 64 < length ws

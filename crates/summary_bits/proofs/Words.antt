@@ -8,7 +8,7 @@ use native.Mathlib.Omega.{arith}
 use native.Mathlib.Decide.{ℕ_discrete}
 use lib.ListN.{length, get_or, set, replicate, length-set, length-replicate, get_or-eq_default}
 use Rattle.base.proofs.Lists.{zeros_at}
-use Rattle.base.proofs.Order.{lt_or_ge}
+use Rattle.std.proofs.lemmas.Bool.{cases_lt}
 use lib.Seq.{get_or-set_same, get_or-set_other, ext_get_or}
 use Rattle.summary_bits.specs.Bits.{bit, bit_at, on_bit, off_bit, with_on, with_off}
 use Rattle.summary_bits.proofs.Number.{bits_ext, bit_le, bit_of_zero, on_same, on_other, off_same, off_other}
@@ -36,7 +36,7 @@ past_end ws k h = bit_at-zero ws k (get_or-eq_default ws 0 h)
 
 pub on_in : (ws : List ℕ) (k : ℕ) → bit_at ws k ≡ 1 → k < length ws * 64
 on_in ws k e =
-    ⊎_elim (λ (l : k < length ws * 64). l) (λ (l : length ws * 64 ≤ k). absurd (omega (arith, past_end ws k (omega arith)))) (lt_or_ge k (length ws * 64))
+    ⊎_elim (λ (l : k < length ws * 64). l) (λ (l : length ws * 64 ≤ k). absurd (omega (arith, past_end ws k (omega arith)))) (cases_lt k (length ws * 64))
 
 -- what a store to word w does to bit k, where it keeps bit k of that word
 stored : (ws : List ℕ) (w v k : ℕ) → w < length ws → (k / 64 ≡ w → bit v (k % 64) ≡ bit (get_or ws w 0) (k % 64)) → bit (get_or (set ws w v) (k / 64) 0) (k % 64) ≡ bit (get_or ws (k / 64) 0) (k % 64)

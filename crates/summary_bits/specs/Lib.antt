@@ -1,3 +1,4 @@
 pub mod Bits
 pub mod Summary
 pub mod Nearest
+pub mod Props

@@ -1,6 +1,10 @@
 // A set of coordinate numbers: bit i of the words is 1 where i is in the set. The summary has a bit for each word, 1 exactly where
 // the word is not 0, so that a search which finds nothing in its own word passes over 64 empty words at a time.
+// What writes takes the two slices: the mapper lends them beside its counts, and a struct of structs that hold `&mut` tells its maker nothing of
+// them afterwards. Searches down and up are written apart: they differ in each line.
 #![tactic(auto)]
+
+mod seek;
 
 ghost use Rattle.std.specs.Prelude.{◌≡◌, ◌*◌, ◌+◌, ◌^◌, ◌<◌, ◌≤◌, eqb, length, get_or, set};
 ghost use Rattle.base.specs.Pick.{pick};
@@ -10,14 +14,7 @@ ghost use Rattle.summary_bits.specs.Summary.{Fits, Summary, raised, lowered};
 ghost use Rattle.summary_bits.specs.Nearest.{Prev, Next};
 
 use base::Coord;
-
-// The number of the nearest set bit, where there is one. It is a usize: an answer of 8 bytes, as with a Coord, is packed into one register
-// by the compiler and taken apart again, about a fifth of a search's time where bits stand close.
-#[derive(Clone, Copy)]
-pub enum Found {
-    At(usize),
-    Nothing,
-}
+use seek::BitSet;
 
 // The summary is written only where the word was 0, as in the original: sets that follow each other would otherwise
 // wait for one summary word.
@@ -31,7 +28,7 @@ pub fn set(words: &mut [u64], summary: &mut [u64], coord: Coord)
     words[w] = old | (1u64 << (coord.0 % 64));
     if old == 0 {
         let s = w / 64;
-        summary[s] = summary[s] | (1u64 << (w % 64));
+        summary[s] |= 1u64 << (w % 64);
     }
 }
 
@@ -66,7 +63,7 @@ pub fn clear_if(words: &mut [u64], summary: &mut [u64], coord: Coord, one: u64)
     words[w] = left;
     if left == 0 {
         let block = w / 64;
-        summary[block] = summary[block] & !(1u64 << (w % 64));
+        summary[block] &= !(1u64 << (w % 64));
     }
 }
 
@@ -78,7 +75,7 @@ pub fn store(words: &mut [u64], summary: &mut [u64], w: usize, word: u64)
     words[w] = word;
     if word != 0 {
         let s = w / 64;
-        summary[s] = summary[s] | (1u64 << (w % 64));
+        summary[s] |= 1u64 << (w % 64);
     }
 }
 
@@ -90,55 +87,6 @@ fn highest_in(words: &[u64], j: usize) -> usize
     j * 64 + 63 - u64::leading_zeros(words[j]) as usize
 }
 
-// The nearest set bit before a block of 64 words: a block has one summary word.
-fn before_block(words: &[u64], summary: &[u64], block: usize) -> Found
-    requires { Fits words.now summary.now × Summary words.now summary.now × (block ≤ length summary.now) }
-    ensures { Prev (bit_at words.now) (block * 64 * 64) result }
-{
-    let mut end = block;
-    while 0 < end {
-        if summary[end - 1] != 0 {
-            return Found::At(highest_in(words, highest_in(summary, end - 1)));
-        }
-        end -= 1;
-    }
-    Found::Nothing
-}
-
-// The nearest set bit before word `w`. The shift drops the summary bits of `w` and the words after it, so that the count of leading
-// zeros is the way down from the word before `w`.
-fn before_word(words: &[u64], summary: &[u64], w: usize) -> Found
-    requires { Fits words.now summary.now × Summary words.now summary.now × (w ≤ length words.now) }
-    ensures { Prev (bit_at words.now) (w * 64) result }
-{
-    if w == 0 {
-        return Found::Nothing;
-    }
-    let last = w - 1;
-    let low = summary[last / 64] << (63 - last % 64);
-    if low != 0 {
-        return Found::At(highest_in(words, last - u64::leading_zeros(low) as usize));
-    }
-    before_block(words, summary, last / 64)
-}
-
-// The nearest set bit strictly before the coordinate.
-pub fn prev_set_before(words: &[u64], summary: &[u64], coord: Coord) -> Found
-    requires { Fits words.now summary.now × Summary words.now summary.now × (coord.0 ≤ length words.now * 64) }
-    ensures { Prev (bit_at words.now) coord.0 result }
-{
-    let index = coord.0 as usize;
-    if index == 0 {
-        return Found::Nothing;
-    }
-    let last = index - 1;
-    let low = words[last / 64] << (63 - last % 64);
-    if low != 0 {
-        return Found::At(last - u64::leading_zeros(low) as usize);
-    }
-    before_word(words, summary, last / 64)
-}
-
 // The lowest set bit of word `j`, which is not 0.
 fn lowest_in(words: &[u64], j: usize) -> usize
     requires { (j < length words.now) × (j < 2 ^ 26) × (0 < get_or words.now j 0) }
@@ -147,49 +95,18 @@ fn lowest_in(words: &[u64], j: usize) -> usize
     j * 64 + u64::trailing_zeros(words[j]) as usize
 }
 
-// The nearest set bit from a block of 64 words on.
-fn from_block(words: &[u64], summary: &[u64], block: usize) -> Found
-    requires { Fits words.now summary.now × Summary words.now summary.now }
-    ensures { Next (bit_at words.now) (block * 64 * 64) result }
+// The nearest set bit strictly before the coordinate.
+pub fn prev_set_before(words: &[u64], summary: &[u64], coord: Coord) -> Option<usize>
+    requires { Fits words.now summary.now × Summary words.now summary.now × (coord.0 ≤ length words.now * 64) }
+    ensures { Prev (bit_at words.now) coord.0 result }
 {
-    let mut at = block;
-    while at < summary.len() {
-        if summary[at] != 0 {
-            return Found::At(lowest_in(words, lowest_in(summary, at)));
-        }
-        at += 1;
-    }
-    Found::Nothing
-}
-
-// The nearest set bit from word `w` on. The shift drops the summary bits of the words before `w`.
-fn from_word(words: &[u64], summary: &[u64], w: usize) -> Found
-    requires { Fits words.now summary.now × Summary words.now summary.now }
-    ensures { Next (bit_at words.now) (w * 64) result }
-{
-    if words.len() <= w {
-        return Found::Nothing;
-    }
-    let high = summary[w / 64] >> (w % 64);
-    if high != 0 {
-        return Found::At(lowest_in(words, w + u64::trailing_zeros(high) as usize));
-    }
-    from_block(words, summary, w / 64 + 1)
+    BitSet { words, summary }.before(coord)
 }
 
 // The nearest set bit strictly after the coordinate.
-pub fn next_set_after(words: &[u64], summary: &[u64], coord: Coord) -> Found
+pub fn next_set_after(words: &[u64], summary: &[u64], coord: Coord) -> Option<usize>
     requires { Fits words.now summary.now × Summary words.now summary.now }
     ensures { Next (bit_at words.now) (coord.0 + 1) result }
 {
-    let first = coord.0 as usize + 1;
-    let w = first / 64;
-    if words.len() <= w {
-        return Found::Nothing;
-    }
-    let high = words[w] >> (first % 64);
-    if high != 0 {
-        return Found::At(first + u64::trailing_zeros(high) as usize);
-    }
-    from_word(words, summary, w + 1)
+    BitSet { words, summary }.after(coord)
 }

@@ -10,7 +10,7 @@ use lib.Dec.{ltb}
 use lib.ListN.{length, get_or, set, length-map, get_or-map, get_or-eq_default}
 use lib.Seq.{ext_get_or, get_or-set_same, get_or-set_other}
 use Rattle.base.specs.Lists.{StrictAsc, hit, times}
-use Rattle.base.proofs.Order.{lt_or_ge, eq_or_ne}
+use Rattle.std.proofs.lemmas.Bool.{cases_lt, cases_eq}
 use Rattle.base.proofs.Lists.{hit_same, hit_other, hit-le}
 use Rattle.rules.specs.Lists.{member, up_from}
 use Rattle.rules.specs.Score.{number_of, score}
@@ -19,7 +19,7 @@ use Rattle.rules.specs.Moves.{marks}
 use Rattle.rules.specs.Ranks.{either, both, mark, has, size, PivotAt}
 use Rattle.rules.proofs.Score.{cases, member_filter, member-times, strict_filter, member-active, score_same}
 use Rattle.rules.proofs.Slide.{score_is}
-use Rattle.slide_mapper.specs.declared.Slide.{Slide}
+use Rattle.base.specs.declared.Slide.{Slide}
 use Rattle.slide_mapper.specs.State.{flags_of, counts_of, slide_of, Inserted, Deleted}
 use Rattle.slide_mapper.proofs.State.{counts_at, counts_length, counts_set, flags_length, flags_set, ready_inserted, ready_deleted}
 use Rattle.sweep.specs.Active.{asked, Active}
@@ -76,7 +76,7 @@ counted_members ms counts ns same k h =
     ap (λ (i : ℕ). ltb 0 (get_or counts i 0)) (up_number n h l) ∙ ap (ltb 0) (k h))
     (λ (l : n ≤ h).
     let z : times h ns ≡ 0 = sym (k h) ∙ get_or-eq_default counts 0 (omega arith) in
-    ap (λ (b : Bool). b && ltb 0 (get_or counts (number_of (all ms) h) 0)) (up_out n h l) ∙ ap (ltb 0) (sym z)) (lt_or_ge h n) ∙
+    ap (λ (b : Bool). b && ltb 0 (get_or counts (number_of (all ms) h) 0)) (up_out n h l) ∙ ap (ltb 0) (sym z)) (cases_lt h n) ∙
     sym (member-times h ns)
 
 -- ---- the shared count is the score
@@ -116,7 +116,7 @@ counted : (cs ds ns ms : List ℕ) (i v : ℕ) → counts_of ds ≡ set (counts_
 counted cs ds ns ms i v e l k here else j =
     ap (λ (xs : List ℕ). get_or xs j 0) e ∙
     ⊎_elim (λ (q : j ≡ i). ap (λ (x : ℕ). get_or (set (counts_of cs) i v) x 0) q ∙ get_or-set_same (counts_of cs) i v 0 (omega (arith, counts_length cs)) ∙ here ∙ ap (λ (x : ℕ). times x ms) (sym q))
-    (λ (q : j ≢ i). get_or-set_other (counts_of cs) i j v 0 q ∙ k j ∙ sym (else j q)) (eq_or_ne j i)
+    (λ (q : j ≢ i). get_or-set_other (counts_of cs) i j v 0 q ∙ k j ∙ sym (else j q)) (cases_eq j i)
 
 module _ {cs ws ss : List ℕ} {at : Slide} {ns : List ℕ} (k : Active cs ws ss at ns) {i : ℕ} (l : i < length cs) where
   -- the count word has room for one more

@@ -23,7 +23,7 @@ use Rattle.rules.proofs.Score.{strict_union, union_left, length_union}
 use Rattle.rules.proofs.Slide.{size_query}
 use Rattle.summary_bits.proofs.Words.{clear_bits}
 use Rattle.summary_bits.proofs.Kept.{clear_summary}
-use Rattle.slide_mapper.specs.declared.Slide.{Slide}
+use Rattle.base.specs.declared.Slide.{Slide}
 use Rattle.slide_mapper.specs.State.{flags_of, Blank, Ready}
 use Rattle.slide_mapper.proofs.State.{counts_at}
 use Rattle.slide_mapper.proofs.Marked.{ones_flags}

@@ -8,3 +8,5 @@ pub mod Active
 pub mod Numbers
 -- Beginning: the mapper before its first item, from marked count words
 pub mod Beginning
+-- Lent: the work lists as a struct
+pub mod Lent

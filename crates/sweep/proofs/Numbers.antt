@@ -10,7 +10,7 @@ use lib.ListN.{length, get_or, replicate, length-map, length-append, length-repl
 use lib.Seq.{get_or-append-add}
 use borrow.Author.Tests.{eq-eqb, ne_eqb}
 use Rattle.base.specs.Lists.{All, StrictAsc, times}
-use Rattle.base.proofs.Order.{lt_or_ge, eq_or_ne}
+use Rattle.std.proofs.lemmas.Bool.{cases_lt, cases_eq}
 use Rattle.base.proofs.Lists.{all_at, times_find}
 use Rattle.rules.specs.Lists.{member, up_from}
 use Rattle.rules.specs.Score.{number_of, score}
@@ -31,7 +31,7 @@ member_number coords rc h m [] a = refl
 member_number coords rc h m (x ∷ xs) a =
     ap (λ (b : Bool). b || member (number_of coords h) (map (number_of coords) xs))
     (⊎_elim (λ (e : h ≡ x). eq-eqb (number_of coords h) (number_of coords x) (ap (number_of coords) e) ∙ sym (eq-eqb h x e))
-    (λ (e : h ≢ x). ne_eqb (number_of coords h) (number_of coords x) (λ q. e (number_only coords rc h x m a.0 q)) ∙ sym (ne_eqb h x e)) (eq_or_ne h x)) ∙
+    (λ (e : h ≢ x). ne_eqb (number_of coords h) (number_of coords x) (λ q. e (number_only coords rc h x m a.0 q)) ∙ sym (ne_eqb h x e)) (cases_eq h x)) ∙
     ap (λ (b : Bool). eqb h x || b) (member_number coords rc h m xs a.1)
 
 pub all_numbers : (coords : List ℕ) → StrictAsc coords → (hs : List ℕ) → All (λ x. member x coords ≡ true) hs → All (λ i. i < length coords) (map (number_of coords) hs)
@@ -60,7 +60,7 @@ module _ (query coords hs : List ℕ) (rq : StrictAsc query) (rc : StrictAsc coo
   none_past : (j : ℕ) → n ≤ j → times j ns ≡ 0
   none_past j l =
       ⊎_elim (λ (h : 0 < times j ns). let f = times_find j ns h in absurd (omega (arith, f.2, all_at (λ i. i < n) ns (all_numbers coords rc hs inside) f.0 f.1))) (λ h. omega arith)
-      (lt_or_ge 0 (times j ns))
+      (cases_lt 0 (times j ns))
 
   counts_at : (j : ℕ) → get_or counts j 0 ≡ times j ns
   unfolding counts tally
@@ -68,7 +68,7 @@ module _ (query coords hs : List ℕ) (rq : StrictAsc query) (rc : StrictAsc coo
       ⊎_elim (λ (l : j < n).
       let e : get_or (up_from 0 n) j n ≡ j = omega (arith, up_at 0 n j n l) in
       ap (λ (d : ℕ). get_or counts j d) (sym (none_past n (omega arith))) ∙ get_or-map tally (up_from 0 n) j n ∙ ap tally e)
-      (λ (l : n ≤ j). get_or-eq_default counts 0 (omega (arith, counts_len)) ∙ sym (none_past j l)) (lt_or_ge j n)
+      (λ (l : n ≤ j). get_or-eq_default counts 0 (omega (arith, counts_len)) ∙ sym (none_past j l)) (cases_lt j n)
 
   hashes_active : (h : ℕ) → member h (active coords counts) ≡ member h hs
   hashes_active h =
@@ -114,7 +114,7 @@ asked_more ms k = strict_same (asked more) (asked ms) (strict_asked more) (stric
         let e : length ms + (h - length ms) ≡ h = omega arith in
         ap (λ (i : ℕ). get_or more i false) (sym e) ∙ get_or-append-add ms (replicate k false) (h - length ms) false ∙
         ⊎_elim (λ (i : h - length ms < k). get_or-replicate k (h - length ms) false false i)
-        (λ (i : k ≤ h - length ms). get_or-eq_default (replicate k false) false (omega (arith, length-replicate k false))) (lt_or_ge (h - length ms) k)
+        (λ (i : k ≤ h - length ms). get_or-eq_default (replicate k false) false (omega (arith, length-replicate k false))) (cases_lt (h - length ms) k)
 
     same : (h : ℕ) → member h (asked more) ≡ member h (asked ms)
     same h =
@@ -123,5 +123,5 @@ asked_more ms k = strict_same (asked more) (asked ms) (strict_asked more) (stric
         ap (λ (b : Bool). b && member h (all more)) (get_or-append ms (replicate k false) false h l) ∙
         ap (λ (b : Bool). get_or ms h false && b) (up_in (length more) h (omega (arith, long)) ∙ sym (up_in (length ms) h l)))
         (λ (l : length ms ≤ h).
-        ap (λ (b : Bool). b && member h (all more)) (past h l) ∙ sym (and-false (get_or ms h false)) ∙ ap (λ (b : Bool). get_or ms h false && b) (sym (up_out (length ms) h l))) (lt_or_ge h (length ms)) ∙
+        ap (λ (b : Bool). b && member h (all more)) (past h l) ∙ sym (and-false (get_or ms h false)) ∙ ap (λ (b : Bool). get_or ms h false && b) (sym (up_out (length ms) h l))) (cases_lt h (length ms)) ∙
         sym (member-asked ms h)

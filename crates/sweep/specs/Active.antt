@@ -3,7 +3,7 @@ use Rattle.std.specs.Prelude.{◌≡◌, Bool, false, List, ℕ, length, get_or}
 use Rattle.base.specs.Lists.{times}
 use Rattle.rules.specs.Lists.{filter, up_from}
 use Rattle.slide_mapper.specs.State.{counts_of, Ready}
-use Rattle.slide_mapper.specs.declared.Slide.{Slide}
+use Rattle.base.specs.declared.Slide.{Slide}
 
 -- the query: the numbers whose flag is true
 unfoldable pub asked : List Bool → List ℕ

@@ -6,3 +6,5 @@ pub mod Work
 pub mod Active
 -- Beginning: work lists at their needed sizes, and the mapper before its first item
 pub mod Beginning
+-- Lent: the work lists as a struct
+pub mod Lent

@@ -1,14 +1,8 @@
--- `base::largest` covers the numbers: the larger of two is no less than each.
-use mathlib.Core.Path.{refl}
-use native.Mathlib.Omega.{arith}
-use Rattle.base.proofs.Covering.{covering_start, covering_step, covering_end}
+-- `base::largest` covers the numbers, since the iterator's maximum does: std says it of each index.
+use Rattle.std.proofs.Common.{rules, ◌≤◌}
+use Rattle.std.specs.List.{All}
+use Rattle.base.proofs.Lists.{all_index}
 use Rattle.base.proofs.largest.Goals as goal
 
-pub loop-i-init : goal.loop-i-init
-loop-i-init c = (covering_start _ _, refl)
-
-pub loop-i-preserved : goal.loop-i-preserved
-loop-i-preserved c = (covering_step c.loop-i.invariant.0 (omega arith) (omega (arith, c.larger-most.ensures)) (omega (arith, c.larger-most.ensures)), c.loop-i.invariant.1)
-
 pub returns : goal.returns
-returns c = (covering_end c.loop-i.invariant.0 (omega arith)).1
+returns c = let each : All (λ x. x ≤ c.unwrap_or.result) c.args.numbers.now = search rules in all_index _ _ (λ i l. each i 0 l)

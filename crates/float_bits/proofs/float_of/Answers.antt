@@ -3,11 +3,11 @@ use mathlib.Core.Path.{refl, sym, ◌∙◌}
 use Rattle.float_bits.proofs.Nans.{made, above, below}
 use Rattle.float_bits.proofs.float_of.Goals as goal
 
-pub returns-then-bits-gt9218868437227405312 : goal.returns-then-bits-gt9218868437227405312
-returns-then-bits-gt9218868437227405312 c = made ∙ sym (above _ c.if-bits-gt9218868437227405312.true)
+pub returns-then-bits-gt-INFINITY : goal.returns-then-bits-gt-INFINITY
+returns-then-bits-gt-INFINITY c = made ∙ sym (above _ c.if-bits-gt-INFINITY.true)
 
 pub float_from_bits-result : goal.float_from_bits-result
-float_from_bits-result c = below _ c.if-bits-gt9218868437227405312.false
+float_from_bits-result c = below _ c.if-bits-gt-INFINITY.false
 
 pub returns : goal.returns
 returns c = refl

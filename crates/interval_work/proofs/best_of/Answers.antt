@@ -13,8 +13,8 @@ events-made-requires c = given_local c.requires c.args.range.end
 pub overflow_add-n : goal.overflow_add-n
 overflow_add-n c = omega (arith, given_sum c.requires c.args.range.end c.events-made.ensures, c.requires.few)
 
-pub overflow_sub-begun : goal.overflow_sub-begun
-overflow_sub-begun c = omega (arith, given_few c.requires c.args.range.end c.events-made.ensures)
+pub slice_bounds-begun-count : goal.slice_bounds-begun-count
+slice_bounds-begun-count c = omega (arith, given_few c.requires c.args.range.end c.events-made.ensures)
 
 pub slice_bounds-sweep_events-end : goal.slice_bounds-sweep_events-end
 slice_bounds-sweep_events-end c =

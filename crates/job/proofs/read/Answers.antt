@@ -1,20 +1,18 @@
--- `read` refuses what `judge` refuses, before any list is touched; else the file is whole, and `fill` decodes it.
-use mathlib.Core.Path.{◌≡◌, sym, ◌∙◌}
-use Rattle.base.specs.declared.Verdict.TheVariants.{Fine}
-use Rattle.rules.specs.Job as rules
-use Rattle.job_fields.specs.Judge.{verdict_of}
-use Rattle.job.proofs.Reading.{refused_promise, is_accepted, read_promise}
+-- `read` fills nothing where the verdict refuses, and else what the rules decode.
+use Rattle.std.proofs.lemmas.Result.{err_from_is_err_and}
+use Rattle.job.proofs.Reading.{refused_promise, is_accepted, mode_is, read_promise}
 use Rattle.job.proofs.read.Goals as goal
 
-pub returns-in-No : goal.returns-in-No
-returns-in-No c = refused_promise c.args.job.now _ (sym c.judge-verdict.ensures ∙ c.in-No.is) _
+pub returns-in_err-mode : goal.returns-in_err-mode
+returns-in_err-mode c =
+    let p = err_from_is_err_and c.from_residual.result c.from_residual.ensures.1 in
+    rw (p.1, p.2) (refused_promise c.args.job.now _ c.in_err-mode.ensures _)
 
-pub fill-decoded-requires : goal.fill-decoded-requires
-fill-decoded-requires c =
-    let fine : verdict_of (rules.read c.args.job.now) ≡ Fine = sym c.judge-verdict.ensures ∙ c.in_default.is in
-    is_accepted c.args.job.now fine
+pub fill-requires-clause-accepted : goal.fill-requires-clause-accepted
+fill-requires-clause-accepted c = is_accepted c.args.job.now _ c.in_ok-mode.ensures
+
+pub fill-requires-clause-mode : goal.fill-requires-clause-mode
+fill-requires-clause-mode c = mode_is c.args.job.now _ c.in_ok-mode.ensures
 
 pub returns : goal.returns
-returns c =
-    let fine : verdict_of (rules.read c.args.job.now) ≡ Fine = sym c.judge-verdict.ensures ∙ c.in_default.is in
-    read_promise c.args.job.now fine _ _ _ c.fill-decoded.ensures.0 c.fill-decoded.ensures.1
+returns c = read_promise c.args.job.now _ c.in_ok-mode.ensures _ _ _ c.fill.ensures.decoded c.fill.ensures.lists

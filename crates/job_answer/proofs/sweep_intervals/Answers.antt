@@ -7,5 +7,5 @@ use Rattle.job_answer.proofs.sweep_intervals.Goals as goal
 
 pub returns : goal.returns
 returns c =
-    let a = c.args in
-    interval_done_lem (spans_of a.asked a.minimum a.query.now a.hashes.now a.starts.now a.ends.now a.identities.now a.uppers.now) c.requires.0 c.requires.1 arrays roomy {keys = replicate 4096 0} (length-replicate {A = ℕ} 4096 0) c.interval_sweep.ensures
+    let j = c.args.job.now in
+    interval_done_lem (spans_of j) j.few_hashes j.few_items arrays roomy {keys = replicate 4096 0} (length-replicate {A = ℕ} 4096 0) c.interval_sweep.ensures

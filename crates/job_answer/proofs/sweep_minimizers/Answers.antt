@@ -4,6 +4,4 @@ use Rattle.job_answer.proofs.Roomy.{minimizer_done_lem, arrays, roomy}
 use Rattle.job_answer.proofs.sweep_minimizers.Goals as goal
 
 pub returns : goal.returns
-returns c =
-    let a = c.args in
-    minimizer_done_lem (points_of a.asked a.minimum a.query.now a.hashes.now a.positions.now a.identities.now a.uppers.now) c.requires.0 c.requires.1 arrays roomy c.minimizer_sweep.ensures
+returns c = let j = c.args.job.now in minimizer_done_lem (points_of j) j.few_hashes j.few_items arrays roomy c.minimizer_sweep.ensures

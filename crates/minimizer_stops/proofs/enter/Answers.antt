@@ -3,22 +3,24 @@ use mathlib.Core.Path.{◌≡◌, refl}
 use Prim.Native.Nat.{◌<◌, ◌+◌}
 use native.Mathlib.Omega.{arith}
 use lib.ListN.{length}
-use Rattle.sweep.proofs.Active.{inserted_flags}
-use Rattle.minimizer_stops.proofs.Holding.{holds_in, holds_room, holds_more, holds_at}
+use Rattle.minimizer_stops.proofs.Holding.{holds_pivot, holds_in, holds_room, holds_more, holds_at, kept_entered, kept_none}
 use Rattle.minimizer_stops.proofs.enter.Goals as goal
 
-pub returns-then-next-e : goal.returns-then-next-e
-returns-then-next-e c = (holds_at c.requires.0 _ _ refl c.if-next-e.true, refl)
+pub returns-then-next-stop : goal.returns-then-next-stop
+returns-then-next-stop c = record { holds = holds_at c.requires.holds _ _ refl c.if-next-stop.true; kept = kept_none _ }
 
-pub insert_ref-came-requires : goal.insert_ref-came-requires
-insert_ref-came-requires c =
-    let comes_one : c.args.next.e ≡ c.args.stop.e + 1 = omega (arith, c.requires.1.end_up, c.requires.1.end_one) in
-    let comes : c.args.stop.e < length c.args.numbers.now = omega (arith, comes_one, c.requires.1.inside) in
-    (c.requires.0.active.ready, holds_in c.requires.0 _ comes, holds_room c.requires.0 _ comes)
+pub insert_ref-requires : goal.insert_ref-requires
+insert_ref-requires c =
+    let comes_one : c.args.next.e ≡ c.args.stop.e + 1 = omega (arith, c.requires.step.end_up, c.requires.step.end_one) in
+    let comes : c.args.stop.e < length c.args.numbers.now = omega (arith, comes_one, c.requires.step.inside) in
+    record { at = holds_pivot c.requires.holds; inside = holds_in c.requires.holds _ comes; room = holds_room c.requires.holds _ comes }
 
 pub returns : goal.returns
 returns c =
-    let comes_one : c.args.next.e ≡ c.args.stop.e + 1 = omega (arith, c.requires.1.end_up, c.requires.1.end_one) in
-    let comes : c.args.stop.e < length c.args.numbers.now = omega (arith, comes_one, c.requires.1.inside) in
+    let comes_one : c.args.next.e ≡ c.args.stop.e + 1 = omega (arith, c.requires.step.end_up, c.requires.step.end_one) in
+    let comes : c.args.stop.e < length c.args.numbers.now = omega (arith, comes_one, c.requires.step.inside) in
     let n = c.args.next in
-    (holds_more c.requires.0 c.insert_ref-came.auto.counts n.b n.e refl comes_one comes c.insert_ref-came.ensures, inserted_flags c.insert_ref-came.ensures)
+    record {
+      holds = holds_more c.requires.holds n.b n.e refl comes_one comes c.insert_ref.ensures.entered;
+      kept = kept_entered c.insert_ref.ensures.entered;
+    }

@@ -1,34 +1,44 @@
 -- `fill` makes the items before e active, one by one.
-use mathlib.Core.Path.{refl, ◌∙◌}
-use Prim.Native.Nat.{◌+◌, ◌<◌}
+use mathlib.Core.Path.{refl}
+use mathlib.Core.List.{List}
+use Prim.Native.Nat.{ℕ, ◌+◌, ◌≤◌, ◌<◌}
 use native.Mathlib.Omega.{arith}
-use lib.ListN.{length}
-use Rattle.sweep.proofs.Active.{inserted_flags}
-use Rattle.minimizer_stops.proofs.Holding.{holds_in, holds_room, holds_more, holds_at}
+use lib.ListN.{length, take, length-take}
+use lib.Seq.{get_or-take}
+use Rattle.minimizer_stops.proofs.Holding.{holds_pivot, holds_in, holds_room, holds_more, holds_at, kept_entered, kept_on, kept_none}
 use Rattle.minimizer_stops.proofs.fill.Goals as goal
 
-pub loop-i-init : goal.loop-i-init
-loop-i-init c = (c.requires.0, refl, omega arith, refl, refl, refl)
+-- the number that a turn reads
+before : {e i : ℕ} (ns : List ℕ) → i < length (take e ns) → e ≤ length ns → i < e
+before {e} ns l h = omega (arith, length-take e ns)
 
-pub insert_ref-came-requires : goal.insert_ref-came-requires
-insert_ref-came-requires c =
-    let comes : c.loop-i.i < length c.args.numbers.now = omega (arith, c.loop-i-test.true, c.requires.1) in
-    let h = c.loop-i.invariant.0 in
-    (h.active.ready, holds_in h _ comes, holds_room h _ comes)
+pub loop-number-init : goal.loop-number-init
+loop-number-init c = record { holds = c.requires.holds; kept = kept_none _ }
 
-pub loop-i-preserved : goal.loop-i-preserved
-loop-i-preserved c =
-    let comes : c.loop-i.i < length c.args.numbers.now = omega (arith, c.loop-i-test.true, c.requires.1) in
-    let v = c.loop-i.invariant in (
-      holds_more v.0 c.insert_ref-came.auto.counts 0 (c.loop-i.i + 1) refl refl comes c.insert_ref-came.ensures,
-      inserted_flags c.insert_ref-came.ensures ∙ v.1,
-      omega (arith, c.loop-i-test.true),
-      c.insert_ref-came.auto.counts ∙ v.3,
-      c.insert_ref-came.auto.words ∙ v.4,
-      c.insert_ref-came.auto.summary ∙ v.5,
-    )
+pub insert_ref-at-requires : goal.insert_ref-at-requires
+insert_ref-at-requires c =
+    let comes = before c.args.numbers.now c.loop-number-test.true c.requires.inside in
+    let here = get_or-take c.args.e c.args.numbers.now c.loop-number.number-index 0 comes in
+    let inside : c.loop-number.number-index < length c.args.numbers.now = omega (arith, comes, c.requires.inside) in
+    let h = c.loop-number.invariant.holds in
+    record { at = holds_pivot h; inside = rw here (holds_in h _ inside); room = rw here (holds_room h _ inside) }
+
+pub loop-number-preserved : goal.loop-number-preserved
+loop-number-preserved c =
+    let comes = before c.args.numbers.now c.loop-number-test.true c.requires.inside in
+    let here = get_or-take c.args.e c.args.numbers.now c.loop-number.number-index 0 comes in
+    let inside : c.loop-number.number-index < length c.args.numbers.now = omega (arith, comes, c.requires.inside) in
+    let v = c.loop-number.invariant in
+    let k = rw here at c.insert_ref-at.ensures.entered in
+    record {
+      holds = holds_more v.holds 0 (c.loop-number.number-index + 1) refl refl inside k;
+      kept = kept_on v.kept (kept_entered k);
+    }
 
 pub returns : goal.returns
 returns c =
-    let v = c.loop-i.invariant in
-    (holds_at v.0 0 _ refl (omega (arith, v.2, c.loop-i-test.false)), v.1)
+    let v = c.loop-number.invariant in
+    record {
+      holds = holds_at v.holds 0 _ refl (omega (arith, c.loop-number.auto.number-index-end, c.loop-number-test.false, length-take c.args.e c.args.numbers.now, c.requires.inside));
+      kept = v.kept;
+    }

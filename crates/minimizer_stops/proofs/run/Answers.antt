@@ -11,8 +11,8 @@ use Rattle.minimizer_stops.proofs.run.Goals as goal
 pub loop-at-init : goal.loop-at-init
 loop-at-init c = running_start c.args.last c.args.first c.requires
 
-pub recorded-requires : goal.recorded-requires
-recorded-requires c =
+pub recorded-place-requires : goal.recorded-place-requires
+recorded-place-requires c =
     let go : goes_on c.args.last (sites c.args.positions.now) (stop_of c.loop-at.stop) ≡ true = sym c.goes_on.ensures ∙ c.loop-at-test.true in
     running_at c.loop-at.invariant go
 
@@ -26,18 +26,18 @@ next_stop-next-requires c =
     let go : goes_on c.args.last (sites c.args.positions.now) (stop_of c.loop-at.stop) ≡ true = sym c.goes_on.ensures ∙ c.loop-at-test.true in
     running_room c.loop-at.invariant go c.ranges.last.fits
 
-pub returns-then-q-p : goal.returns-then-q-p
-returns-then-q-p c =
+pub returns-then-next-stop : goal.returns-then-next-stop
+returns-then-next-stop c =
     let go : goes_on c.args.last (sites c.args.positions.now) (stop_of c.loop-at.stop) ≡ true = sym c.goes_on.ensures ∙ c.loop-at-test.true in
-    running_last c.loop-at.invariant go _ (scored_as c.loop-at.invariant go _ _ c.recorded.ensures c.better-best.ensures)
-    (moves_not c.args.positions.now c.args.w (stop_of c.loop-at.stop) (stop_of c.next_stop-next.result) c.next_stop-next.ensures c.if-q-p.true)
+    running_last c.loop-at.invariant go _ (scored_as c.loop-at.invariant go _ _ c.recorded-place.ensures c.better-best.ensures)
+    (moves_not c.args.positions.now c.args.w (stop_of c.loop-at.stop) (stop_of c.next_stop-next.result) c.next_stop-next.ensures c.if-next-stop.true)
 
 pub slide-at-requires : goal.slide-at-requires
 slide-at-requires c =
     let go : goes_on c.args.last (sites c.args.positions.now) (stop_of c.loop-at.stop) ≡ true = sym c.goes_on.ensures ∙ c.loop-at-test.true in
     let steps : Step c.args.numbers.now c.loop-at.stop c.next_stop-next.result = next_step c.args.positions.now c.args.numbers.now c.args.w c.loop-at.stop c.next_stop-next.result c.next_stop-next.ensures c.loop-at.invariant.start.order
     (omega (arith, (goes_facts c.args.positions.now c.args.last (stop_of c.loop-at.stop) go).0, c.loop-at.invariant.start.parallel)) in
-    (c.loop-at.invariant.start.holds, steps)
+    record { holds = c.loop-at.invariant.start.holds; step = steps }
 
 pub loop-at-smaller : goal.loop-at-smaller
 loop-at-smaller c =
@@ -49,8 +49,8 @@ loop-at-smaller c =
 pub loop-at-preserved : goal.loop-at-preserved
 loop-at-preserved c =
     let go : goes_on c.args.last (sites c.args.positions.now) (stop_of c.loop-at.stop) ≡ true = sym c.goes_on.ensures ∙ c.loop-at-test.true in
-    running_next c.loop-at.invariant go _ (scored_as c.loop-at.invariant go _ _ c.recorded.ensures c.better-best.ensures) c.next_stop-next.result c.next_stop-next.ensures c.if-q-p.false
-    c.slide-at.ensures.0 c.slide-at.ensures.1 c.slide-at.auto.counts c.slide-at.auto.words c.slide-at.auto.summary
+    running_next c.loop-at.invariant go _ (scored_as c.loop-at.invariant go _ _ c.recorded-place.ensures c.better-best.ensures) c.next_stop-next.result c.next_stop-next.ensures c.if-next-stop.false
+    c.slide-at.ensures.holds c.slide-at.ensures.kept
 
 pub returns : goal.returns
 returns c = running_end c.loop-at.invariant (sym c.goes_on.ensures ∙ c.loop-at-test.false)

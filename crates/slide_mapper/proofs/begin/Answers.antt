@@ -3,15 +3,12 @@ use mathlib.Core.Path.{◌≡◌, refl}
 use Prim.Native.Nat.{◌<◌, ◌+◌, ◌*◌, min}
 use native.Mathlib.Omega.{arith}
 use lib.ListN.{length}
-use Rattle.summary_bits.proofs.Search.{prev_at, prev_nothing}
+use Rattle.summary_bits.proofs.Search.{prev_at, prev_some}
 use Rattle.slide_mapper.proofs.First.{Marked, filled_none, filled_fits, filled_in, filled_more, filled_all, begin_asks, begin_some, begin_ready}
 use Rattle.slide_mapper.proofs.begin.Goals as goal
 
 pub loop-w-init : goal.loop-w-init
 loop-w-init c = (refl, filled_none c.requires (λ v. omega (arith, c.type_inv.words v)))
-
-pub overflow_mul-w : goal.overflow_mul-w
-overflow_mul-w c = omega (arith, c.loop-w.invariant.1.low, c.requires.small)
 
 pub overflow_mul-from : goal.overflow_mul-from
 overflow_mul-from c = omega (arith, c.loop-w.invariant.1.low, c.requires.small)
@@ -21,7 +18,7 @@ overflow_add-from c = omega (arith, c.loop-w.invariant.1.low, c.requires.small)
 
 pub gathered-requires : goal.gathered-requires
 gathered-requires c =
-    let ends : c.least-end.result ≡ min (c.loop-w.w * 64 + 64) (length c.args.counts.now) = omega (arith, c.least-end.ensures, c.loop-w.invariant.0) in
+    let ends : c.min-end.result ≡ min (c.loop-w.w * 64 + 64) (length c.args.counts.now) = omega (arith, c.min-end.ensures, c.loop-w.invariant.0) in
     let inside : c.loop-w.w * 64 < length c.args.counts.now = omega (arith, c.loop-w-test.true, c.loop-w.invariant.0) in
     (omega (arith, ends, inside), omega (arith, ends), omega (arith, ends), c.requires.flags)
 
@@ -30,14 +27,11 @@ store-requires c =
     let inside : c.loop-w.w * 64 < length c.args.counts.now = omega (arith, c.loop-w-test.true, c.loop-w.invariant.0) in
     (filled_fits c.requires c.loop-w.invariant.1, filled_in c.requires c.loop-w.invariant.1 inside)
 
-pub overflow_add-w : goal.overflow_add-w
-overflow_add-w c = omega (arith, c.loop-w.invariant.1.low, c.requires.small)
-
 pub loop-w-preserved : goal.loop-w-preserved
 loop-w-preserved c =
     let inside : c.loop-w.w * 64 < length c.args.counts.now = omega (arith, c.loop-w-test.true, c.loop-w.invariant.0) in
-    let ends : c.least-end.result ≡ min (c.loop-w.w * 64 + 64) (length c.args.counts.now) = omega (arith, c.least-end.ensures, c.loop-w.invariant.0) in
-    (c.loop-w.invariant.0, filled_more c.requires c.loop-w.invariant.1 inside c.least-end.result c.gathered.result ends c.gathered.ensures c.store.new.words c.store.new.summary c.store.ensures.0 c.store.ensures.1)
+    let ends : c.min-end.result ≡ min (c.loop-w.w * 64 + 64) (length c.args.counts.now) = omega (arith, c.min-end.ensures, c.loop-w.invariant.0) in
+    (c.loop-w.invariant.0, filled_more c.requires c.loop-w.invariant.1 inside c.min-end.result c.gathered.result ends c.gathered.ensures c.store.new.words c.store.new.summary c.store.ensures.0 c.store.ensures.1)
 
 pub overflow_cast-n : goal.overflow_cast-n
 overflow_cast-n c = omega (arith, c.loop-w.invariant.0, c.requires.small)
@@ -47,15 +41,15 @@ prev_set_before-requires c =
     let all : Marked c.args.counts.now c.args.words.now c.args.summary.now c.loop-w.words c.loop-w.summary = filled_all c.requires c.loop-w.invariant.1 (omega (arith, c.loop-w-test.false, c.loop-w.invariant.0)) in
     begin_asks c.requires all
 
+pub unwrap-last-requires : goal.unwrap-last-requires
+unwrap-last-requires c =
+    let all : Marked c.args.counts.now c.args.words.now c.args.summary.now c.loop-w.words c.loop-w.summary = filled_all c.requires c.loop-w.invariant.1 (omega (arith, c.loop-w-test.false, c.loop-w.invariant.0)) in
+    prev_some _ _ _ c.prev_set_before.ensures (λ none. begin_some c.requires all (λ j l. none j (omega (arith, c.loop-w.invariant.0))))
+
 pub overflow_cast-result : goal.overflow_cast-result
-overflow_cast-result c = omega (arith, (prev_at c.in-At.is c.prev_set_before.ensures).below, c.loop-w.invariant.0, c.requires.small)
+overflow_cast-result c = omega (arith, (prev_at c.unwrap-last.ensures c.prev_set_before.ensures).below, c.loop-w.invariant.0, c.requires.small)
 
-pub returns-in-At : goal.returns-in-At
-returns-in-At c =
+pub returns : goal.returns
+returns c =
     let all : Marked c.args.counts.now c.args.words.now c.args.summary.now c.loop-w.words c.loop-w.summary = filled_all c.requires c.loop-w.invariant.1 (omega (arith, c.loop-w-test.false, c.loop-w.invariant.0)) in
-    (refl, begin_ready c.requires all c.in-At.last (prev_at c.in-At.is c.prev_set_before.ensures))
-
-pub returns-in-Nothing : goal.returns-in-Nothing
-returns-in-Nothing c =
-    let all : Marked c.args.counts.now c.args.words.now c.args.summary.now c.loop-w.words c.loop-w.summary = filled_all c.requires c.loop-w.invariant.1 (omega (arith, c.loop-w-test.false, c.loop-w.invariant.0)) in
-    absurd (begin_some c.requires all (prev_nothing _ _ c.in-Nothing.is c.prev_set_before.ensures))
+    (refl, begin_ready c.requires all c.unwrap-last.result (prev_at c.unwrap-last.ensures c.prev_set_before.ensures))

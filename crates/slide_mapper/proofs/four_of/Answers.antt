@@ -5,18 +5,6 @@ use Prim.Native.Nat.{◌+◌}
 use Rattle.slide_mapper.proofs.First.{gathered_one, gathered_more}
 use Rattle.slide_mapper.proofs.four_of.Goals as goal
 
-pub overflow_cast-result : goal.overflow_cast-result
-overflow_cast-result c = omega (arith, c.requires.1 c.args.i)
-
-pub overflow_cast-result-2 : goal.overflow_cast-result-2
-overflow_cast-result-2 c = omega (arith, c.requires.1 (c.args.i + 1))
-
-pub overflow_cast-result-3 : goal.overflow_cast-result-3
-overflow_cast-result-3 c = omega (arith, c.requires.1 (c.args.i + 2))
-
-pub overflow_cast-result-4 : goal.overflow_cast-result-4
-overflow_cast-result-4 c = omega (arith, c.requires.1 (c.args.i + 3))
-
 pub returns : goal.returns
 returns c =
     let cs = c.args.counts.now in
@@ -24,4 +12,5 @@ returns c =
     let low = c.requires.1 in
     let two = gathered_more 1 (gathered_one cs i (i + 1) refl (low i)) (gathered_one cs (i + 1) (i + 2) (omega arith) (low (i + 1))) refl (omega arith) (omega arith) in
     let three = gathered_more 2 two (gathered_one cs (i + 2) (i + 3) (omega arith) (low (i + 2))) refl (omega arith) (omega arith) in
-    gathered_more 3 three (gathered_one cs (i + 3) (i + 4) (omega arith) (low (i + 3))) refl (omega arith) (omega arith)
+    rw (c.from.ensures, c.from-2.ensures, c.from-3.ensures, c.from-4.ensures)
+    (gathered_more 3 three (gathered_one cs (i + 3) (i + 4) (omega arith) (low (i + 3))) refl (omega arith) (omega arith))

@@ -3,10 +3,8 @@ use native.Mathlib.Omega.{arith}
 use Rattle.slide_mapper.proofs.State.{shared_at}
 use Rattle.slide_mapper.proofs.shared_bit.Goals as goal
 
--- src/lib.rt:24:9
 pub returns-then-word-lt2 : goal.returns-then-word-lt2
 returns-then-word-lt2 c = omega (arith, shared_at c.args.counts.now c.args.coord.0)
 
--- src/lib.rt:18:1
-pub returns : goal.returns
-returns c = omega (arith, shared_at c.args.counts.now c.args.coord.0)
+pub returns-else-word-lt2 : goal.returns-else-word-lt2
+returns-else-word-lt2 c = omega (arith, shared_at c.args.counts.now c.args.coord.0)

@@ -1,28 +1,31 @@
--- `check` answers the first refusal of the chain of checks, and what a fine one tells lets the next be asked.
+-- `check` goes down the verdict: each test that led to a refusal decides one of its choices.
+use Prim.Native.Nat.{ℕ}
 use mathlib.Core.Path.{◌≡◌, sym, ap, ◌∙◌}
-use Rattle.base.specs.declared.Verdict.TheVariants.{Fine}
-use Rattle.candidate_window.proofs.Checking.{refused_sizes, few_groups, refused_lengths, left_to_needs}
-use Rattle.rules.specs.Checks.{minimizer_finder_sizes, minimizer_finder_lengths}
+use mathlib.Core.Bool.{true, not}
+use mathlib.Core.Logic.{inl, inr}
+use borrow.Author.Tests.{lt-ltb, le-ltb, ne_eqb}
+use lib.Dec.{eqb}
+use Rattle.base.specs.Pick.{pick}
 use Rattle.rules.specs.Lists.{sum}
-use lib.ListN.{length}
+use Rattle.candidate_window.specs.Given.{verdict_of}
+use Rattle.candidate_window.proofs.checks.check.Goals.{then-any_other, else-any_other}
 use Rattle.candidate_window.proofs.checks.check.Goals as goal
 
-pub returns-in-No : goal.returns-in-No
-returns-in-No c = refused_sizes _ _ _ _ _ _ _ _ _ (sym c.check_sizes-sizes.ensures ∙ c.in-No.is)
+pub returns-then-groups-gt-GROUPS : goal.returns-then-groups-gt-GROUPS
+unfolding verdict_of pick
+returns-then-groups-gt-GROUPS c =
+    elim c.if-groups-gt-GROUPS.either [ inl t ↦ rw (sym c.any_above.ensures ∙ t) | inr t ↦ rw (sym c.any_above.ensures ∙ t.0, lt-ltb _ _ t.1) ]
 
-pub total-requires : goal.total-requires
-total-requires c =
-    let fine₁ : minimizer_finder_sizes c.args.hits c.args.positions (length c.args.groups.now) c.args.minimum ≡ Fine = sym c.check_sizes-sizes.ensures ∙ c.in_default.is in
-    let a = c.args in few_groups a.groups.now a.hits a.positions a.minimum a.keys a.contigs a.starts a.ends fine₁
-
-pub returns-in-No-lengths : goal.returns-in-No-lengths
-returns-in-No-lengths c =
-    let fine₁ : minimizer_finder_sizes c.args.hits c.args.positions (length c.args.groups.now) c.args.minimum ≡ Fine = sym c.check_sizes-sizes.ensures ∙ c.in_default.is in
-    let lengths : c.check_lengths-lengths.result ≡ minimizer_finder_lengths c.args.hits c.args.positions (sum c.args.groups.now) = c.check_lengths-lengths.ensures ∙ ap (minimizer_finder_lengths c.args.hits c.args.positions) c.total.ensures in
-    refused_lengths _ _ _ _ _ _ _ _ fine₁ _ (sym lengths ∙ c.in-No-lengths.is)
-
-pub returns : goal.returns
-returns c =
-    let fine₁ : minimizer_finder_sizes c.args.hits c.args.positions (length c.args.groups.now) c.args.minimum ≡ Fine = sym c.check_sizes-sizes.ensures ∙ c.in_default.is in
-    let lengths : c.check_lengths-lengths.result ≡ minimizer_finder_lengths c.args.hits c.args.positions (sum c.args.groups.now) = c.check_lengths-lengths.ensures ∙ ap (minimizer_finder_lengths c.args.hits c.args.positions) c.total.ensures in
-    left_to_needs _ _ _ _ _ _ _ _ fine₁ _ (sym lengths ∙ c.in_default-lengths.is) c.check_needs.ensures
+pub returns-then-total-hits : goal.returns-then-total-hits
+unfolding verdict_of pick
+returns-then-total-hits c =
+    let a = c.args in
+    let few = c.if-groups-gt-GROUPS.false in
+    let set = c.if-minimum-gt-MINIMUM.false in
+    elim c.if-any_other.branch [
+      | then-any_other w ↦
+          rw (sym c.any_above.ensures ∙ few.0, le-ltb _ _ few.1, ne_eqb _ _ set.0, le-ltb _ _ set.1, sym c.any_other.ensures ∙ w.if-any_other.true)
+      | else-any_other w ↦
+          let other : not (eqb (sum a.groups.now) a.hits) ≡ true = ap (λ (n : ℕ). not (eqb n a.hits)) (sym w.total.ensures) ∙ sym w.value-is ∙ c.if-total-hits.true in
+          rw (sym c.any_above.ensures ∙ few.0, le-ltb _ _ few.1, ne_eqb _ _ set.0, le-ltb _ _ set.1, sym c.any_other.ensures ∙ w.if-any_other.false, other)
+    ]

@@ -11,13 +11,21 @@ use Rattle.interval_events.proofs.Spanning.{Applying, rest_of}
 use Rattle.interval_events.proofs.spans.run.Given as goal
 
 abbrev pub invariant-group : goal.invariant-group
-invariant-group l = Applying (length l.keys) l.initial.counts l.counts l.words l.summary l.at l.i × (l.initial.i ≤ l.i) × (l.p ≡ event_at (get_or l.keys l.initial.i 0)) × ((s : Sweep) → spans_from s l.p (counts_of l.initial.counts) (drop l.initial.i l.keys) ≡ spans_from s l.p (counts_of l.counts) (drop l.i l.keys)) × (length l.counts ≡ length l.initial.counts) × (length l.words ≡ length l.initial.words) × (length l.summary ≡ length l.initial.summary)
+invariant-group l = record {
+  applying : Applying (length l.keys) l.initial.lists l.lists l.at l.i;
+  on : l.initial.i ≤ l.i;
+  here : l.p ≡ event_at (get_or l.keys l.initial.i 0);
+  spans : (s : Sweep) → spans_from s l.p (counts_of l.initial.lists.counts.now) (drop l.initial.i l.keys) ≡ spans_from s l.p (counts_of l.lists.counts.now) (drop l.i l.keys);
+}
 
 abbrev pub decreases-group : goal.decreases-group
 decreases-group l = length l.keys - l.i
 
 abbrev pub invariant-events : goal.invariant-events
-invariant-events l = Applying (length l.keys) l.initial.counts l.counts l.words l.summary l.at l.i × ((s : Sweep) → Asks s (flags_of l.initial.counts) l.to.0 → best_from l.initial.best (rest_of s (counts_of l.initial.counts) l.keys) ≡ best_from l.best (rest_of s (counts_of l.counts) (drop l.i l.keys))) × (length l.counts ≡ length l.initial.counts) × (length l.words ≡ length l.initial.words) × (length l.summary ≡ length l.initial.summary)
+invariant-events l = record {
+  applying : Applying (length l.keys) l.initial.lists l.lists l.at l.i;
+  best : (s : Sweep) → Asks s (flags_of l.initial.lists.counts.now) l.to.0 → best_from l.initial.best (rest_of s (counts_of l.initial.lists.counts.now) l.keys) ≡ best_from l.best (rest_of s (counts_of l.lists.counts.now) (drop l.i l.keys));
+}
 
 abbrev pub decreases-events : goal.decreases-events
 decreases-events l = length l.keys - l.i

@@ -1,59 +1,37 @@
 -- `answer` goes by the early nones in their order, then works and places.
-use mathlib.Core.Path.{◌≡◌, refl, sym, ◌∙◌}
+use mathlib.Core.Path.{refl, sym, ◌∙◌}
 use native.Mathlib.Omega.{arith}
-use lib.ListN.{length}
+use borrow.Author.Tests.{eqb-true, eqb-false}
 use Rattle.rules.specs.Sweep.{Sweep}
-use Rattle.interval_sweep.specs.Given.{sweep_of}
 use Rattle.interval_work.specs.Work.{Found}
+use Rattle.interval_sweep.specs.Given.{asked}
 use Rattle.interval_sweep.proofs.Answering.{early_short, early_empty, early_reversed, late_placed, late_fits}
+use Rattle.interval_sweep.proofs.answer.answer.Goals.{then-settings-via-then-settings, then-settings-via-else-settings+then-is_empty, then-settings-via-else-settings+else-is_empty+then-range}
 use Rattle.interval_sweep.proofs.answer.answer.Goals as goal
 
-pub returns-then-settings : goal.returns-then-settings
-returns-then-settings c =
-    let asked : Sweep = sweep_of c.args.query.now c.args.hashes.now c.args.starts.now c.args.ends.now c.args.settings c.args.range c.args.identities.now c.args.uppers.now c.args.minimum in
-    record { answer_is = c.nothing.ensures ∙ early_short asked c.if-settings.true; clear = c.requires.1 }
-
-pub returns-then-query-eq0 : goal.returns-then-query-eq0
-returns-then-query-eq0 c =
-    let asked : Sweep = sweep_of c.args.query.now c.args.hashes.now c.args.starts.now c.args.ends.now c.args.settings c.args.range c.args.identities.now c.args.uppers.now c.args.minimum in
-    record { answer_is = c.nothing-then-query-eq0.ensures ∙ early_empty asked c.if-settings.false c.if-query-eq0.true; clear = c.requires.1 }
-
-pub returns-then-range : goal.returns-then-range
-returns-then-range c =
-    let asked : Sweep = sweep_of c.args.query.now c.args.hashes.now c.args.starts.now c.args.ends.now c.args.settings c.args.range c.args.identities.now c.args.uppers.now c.args.minimum in
-    record { answer_is = c.nothing-then-range.ensures ∙ early_reversed asked c.if-settings.false c.if-query-eq0.false c.if-range.true; clear = c.requires.1 }
-
-pub work-swept-requires : goal.work-swept-requires
-work-swept-requires c =
-    let a = c.requires.0.sweeps in
-    let ne : length c.args.query.now ≡ 0 → ⊥ = c.if-query-eq0.false in (
-      record {
-        some = omega (arith, ne);
-        query_asc = a.query_ascends;
-        few_hashes = a.few_hashes;
-        few_items = a.few_items;
-        same_starts = sym a.same_starts;
-        same_ends = sym c.requires.0.same_ends;
-        starts_asc = a.starts_ascend;
-        forward = c.if-range.false;
-        from_is = c.local-bounds.ensures.0;
-        to_is = c.local-bounds.ensures.1;
-      },
-      c.requires.1,
-    )
+pub returns-then-settings-clause-answer : goal.returns-then-settings-clause-answer
+returns-then-settings-clause-answer c =
+    let s : Sweep = asked c.args.input c.args.range c.args.minimum in
+    elim c.then-settings.branch [
+      | then-settings-via-then-settings w ↦ c.early.ensures ∙ early_short s w.if-settings.true
+      | then-settings-via-else-settings+then-is_empty w ↦ c.early.ensures ∙ early_empty s w.if-settings.false (eqb-true _ _ (sym w.is_empty.ensures ∙ w.if-is_empty.true))
+      | then-settings-via-else-settings+else-is_empty+then-range w ↦ c.early.ensures ∙ early_reversed s w.if-settings.false (eqb-false _ _ (sym w.is_empty.ensures ∙ w.if-is_empty.false)) w.if-range.true
+    ]
 
 pub place-requires : goal.place-requires
 place-requires c =
-    let asked : Sweep = sweep_of c.args.query.now c.args.hashes.now c.args.starts.now c.args.ends.now c.args.settings c.args.range c.args.identities.now c.args.uppers.now c.args.minimum in
-    let found : Found asked c.work-swept.result = c.work-swept.ensures.found asked (record { query_is = refl; hashes_are = refl; starts_are = refl; ends_are = refl; settings_are = refl; range_is = refl }) in
-    let a = c.requires.0.sweeps in
-    late_fits asked c.if-settings.false c.if-query-eq0.false c.if-range.false c.work-swept.result found (omega (arith, a.kmer_is, c.if-settings.false)) a.few_hashes a.few_items a.entries a.same_table (omega (arith, c.struct_known-2-1.given))
-
-pub returns : goal.returns
-returns c =
-    let asked : Sweep = sweep_of c.args.query.now c.args.hashes.now c.args.starts.now c.args.ends.now c.args.settings c.args.range c.args.identities.now c.args.uppers.now c.args.minimum in
-    let found : Found asked c.work-swept.result = c.work-swept.ensures.found asked (record { query_is = refl; hashes_are = refl; starts_are = refl; ends_are = refl; settings_are = refl; range_is = refl }) in
+    let i = c.args.input in
+    let s : Sweep = asked i c.args.range c.args.minimum in
+    let found : Found s c.work-swept.result = c.work-swept.ensures.found s (record { query_is = refl; hashes_are = refl; starts_are = refl; ends_are = refl; settings_are = refl; range_is = refl }) in
+    let some = eqb-false _ _ (sym c.is_empty.ensures ∙ c.if-is_empty.false) in
     record {
-      answer_is = c.place.ensures ∙ late_placed asked c.if-settings.false c.if-query-eq0.false c.if-range.false c.work-swept.result found;
-      clear = c.work-swept.ensures.clear;
+      forward = c.if-range.false;
+      fits = late_fits s c.if-settings.false some c.if-range.false c.work-swept.result found (omega (arith, i.kmer_is, c.if-settings.false)) i.few_hashes i.few_items i.entries i.same_table (omega arith);
     }
+
+pub returns-clause-answer : goal.returns-clause-answer
+returns-clause-answer c =
+    let s : Sweep = asked c.args.input c.args.range c.args.minimum in
+    let found : Found s c.work-swept.result = c.work-swept.ensures.found s (record { query_is = refl; hashes_are = refl; starts_are = refl; ends_are = refl; settings_are = refl; range_is = refl }) in
+    let some = eqb-false _ _ (sym c.is_empty.ensures ∙ c.if-is_empty.false) in
+    c.place.ensures ∙ late_placed c.args.input c.args.range c.args.minimum c.if-settings.false some c.if-range.false c.work-swept.result found

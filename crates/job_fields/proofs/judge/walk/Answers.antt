@@ -1,47 +1,52 @@
 -- `walk` keeps that what is left gives the verdict of the whole, and every step is a case of the rules' reading.
-use mathlib.Core.Path.{◌≡◌, sym, ◌∙◌}
+use mathlib.Core.Path.{sym, ap, ◌∙◌}
 use native.Mathlib.Omega.{arith}
-use Rattle.job_fields.specs.Judge.{verdict_of}
-use Rattle.job_fields.specs.declared.judge.Step.{Step}
-use Rattle.job_fields.proofs.Walking.{Told, walking_start, told_step, more_bytes, all_read}
+use borrow.Author.Tests.{eqb-true, eqb-false}
+use lib.ListN.{length}
+use Rattle.base.specs.declared.Reason.TheVariants.{BytesBehind}
+use Rattle.std.proofs.lemmas.Result.{err_from_is_err_and}
+use Rattle.job_fields.proofs.Walking.{refuse, walking_start, told_refused, told_onward, more_bytes, all_read}
 use Rattle.job_fields.proofs.judge.walk.Goals as goal
 
-pub loop-number-init : goal.loop-number-init
-loop-number-init c = walking_start c.args.job.now c.requires
+pub loop-seen-init : goal.loop-seen-init
+loop-seen-init c = record {
+  job = c.new-reader.ensures.job;
+  walking = rw c.new-reader.ensures.front (walking_start c.args.job.now c.requires);
+}
 
-pub field-step-requires : goal.field-step-requires
-field-step-requires c = let w = c.loop-number.invariant in (w.here, c.requires, omega (arith, w.here, w.small, c.requires))
+pub next-requires : goal.next-requires
+next-requires c =
+    let w = c.loop-seen.invariant.walking in
+    record { long = omega (arith, ap length c.loop-seen.invariant.job, c.requires); joined = omega (arith, w.small, w.here, c.requires) }
 
-pub refused-requires : goal.refused-requires
-refused-requires c = omega (arith, c.loop-number.invariant.here, c.requires)
+pub returns-in_err-seen : goal.returns-in_err-seen
+returns-in_err-seen c =
+    let p = err_from_is_err_and c.from_residual.result c.from_residual.ensures.1 in
+    rw (p.1, p.2) (told_refused c.args.job.now c.loop-seen.reader.job.now c.loop-seen.invariant.job c.loop-seen.reader.offset c.loop-seen.seen c.loop-seen.invariant.walking _ c.in_err-seen.ensures.step)
 
-pub returns-in-Fault : goal.returns-in-Fault
-unfolding verdict_of
-returns-in-Fault c =
-    let told : (r : Step) → c.field-step.result ≡ r → Told c.args.job.now c.loop-number.at r = λ r e. told_step c.args.job.now c.loop-number.at c.loop-number.seen r c.loop-number.invariant (sym e ∙ c.field-step.ensures) in
-    c.refused.ensures ∙ told _ c.in-Fault.is
+pub loop-seen-smaller : goal.loop-seen-smaller
+loop-seen-smaller c =
+    let o = told_onward c.args.job.now c.loop-seen.reader.job.now c.loop-seen.invariant.job c.loop-seen.reader.offset c.loop-seen.seen c.loop-seen.invariant.walking _ c.in_ok-seen.ensures.step in
+    omega (arith, o.on, o.upto, c.in_ok-seen.ensures.offset)
 
-pub loop-number-smaller : goal.loop-number-smaller
-loop-number-smaller c =
-    let told : (r : Step) → c.field-step.result ≡ r → Told c.args.job.now c.loop-number.at r = λ r e. told_step c.args.job.now c.loop-number.at c.loop-number.seen r c.loop-number.invariant (sym e ∙ c.field-step.ensures) in
-    let t = told _ c.in-Next.is in
-    omega (arith, t.on, t.walking.here)
+pub loop-seen-preserved : goal.loop-seen-preserved
+loop-seen-preserved c =
+    let o = told_onward c.args.job.now c.loop-seen.reader.job.now c.loop-seen.invariant.job c.loop-seen.reader.offset c.loop-seen.seen c.loop-seen.invariant.walking _ c.in_ok-seen.ensures.step in
+    record {
+      job = c.in_ok-seen.ensures.job ∙ c.loop-seen.invariant.job;
+      walking = rw c.in_ok-seen.ensures.offset (o.further c.if-seen.false);
+    }
 
-pub loop-number-preserved : goal.loop-number-preserved
-loop-number-preserved c =
-    let told : (r : Step) → c.field-step.result ≡ r → Told c.args.job.now c.loop-number.at r = λ r e. told_step c.args.job.now c.loop-number.at c.loop-number.seen r c.loop-number.invariant (sym e ∙ c.field-step.ensures) in
-    (told _ c.in-Next.is).walking
+pub returns-then-is_at_end : goal.returns-then-is_at_end
+returns-then-is_at_end c =
+    let o = told_onward c.args.job.now c.loop-seen.reader.job.now c.loop-seen.invariant.job c.loop-seen.reader.offset c.loop-seen.seen c.loop-seen.invariant.walking _ c.in_ok-seen.ensures.step in
+    let end = eqb-true c.next.new.reader.offset (length c.next.new.reader.job.now) (sym c.if-is_at_end.ensures) in
+    let same = ap length (c.in_ok-seen.ensures.job ∙ c.loop-seen.invariant.job) in
+    all_read (o.ended c.if-seen.true) (omega (arith, end, same, c.in_ok-seen.ensures.offset))
 
-pub refused-requires-then-place-job : goal.refused-requires-then-place-job
-refused-requires-then-place-job c = omega (arith, c.requires, c.if-place-job.true)
-
-pub returns-then-place-job : goal.returns-then-place-job
-unfolding verdict_of
-returns-then-place-job c =
-    let told : (r : Step) → c.field-step.result ≡ r → Told c.args.job.now c.loop-number.at r = λ r e. told_step c.args.job.now c.loop-number.at c.loop-number.seen r c.loop-number.invariant (sym e ∙ c.field-step.ensures) in
-    c.refused-then-place-job.ensures ∙ more_bytes (told _ c.in-End.is) c.if-place-job.true
-
-pub returns-in-End : goal.returns-in-End
-returns-in-End c =
-    let told : (r : Step) → c.field-step.result ≡ r → Told c.args.job.now c.loop-number.at r = λ r e. told_step c.args.job.now c.loop-number.at c.loop-number.seen r c.loop-number.invariant (sym e ∙ c.field-step.ensures) in
-    all_read (told _ c.in-End.is) c.if-place-job.false
+pub returns : goal.returns
+returns c =
+    let o = told_onward c.args.job.now c.loop-seen.reader.job.now c.loop-seen.invariant.job c.loop-seen.reader.offset c.loop-seen.seen c.loop-seen.invariant.walking _ c.in_ok-seen.ensures.step in
+    let short = eqb-false c.next.new.reader.offset (length c.next.new.reader.job.now) (sym c.if-is_at_end.ensures) in
+    let same = ap length (c.in_ok-seen.ensures.job ∙ c.loop-seen.invariant.job) in
+    ap (refuse BytesBehind) (c.offset.ensures ∙ c.in_ok-seen.ensures.offset) ∙ more_bytes (o.ended c.if-seen.true) (omega (arith, short, same, c.in_ok-seen.ensures.offset, o.upto))

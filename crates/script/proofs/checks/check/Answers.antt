@@ -1,65 +1,41 @@
 -- `check` answers the first refusal of the chain of checks, and what each fine one tells lets the next be asked.
-use mathlib.Core.Path.{◌≡◌, sym, ◌∙◌}
+use mathlib.Core.Path.{sym}
 use native.Mathlib.Omega.{arith}
-use Rattle.base.specs.declared.Verdict.TheVariants.{Fine}
-use Rattle.base.proofs.Verdicts.{no_fine}
-use Rattle.rules.specs.Script.{Script}
-use Rattle.rules.specs.Refusals.{ScriptRoom}
-use Rattle.script_work.specs.Work.{script_of}
-use Rattle.script.specs.Given.{room_of}
-use Rattle.script.proofs.Checking.{sizes, orders, members, refused_sizes, refused_orders, refused_members, left_to_needs, sizes_fine, orders_fine}
+use Rattle.std.proofs.lemmas.Result.{err_from_is_err_and}
+use Rattle.script.specs.Given.{asked, lengths_of}
+use Rattle.script.proofs.Checking.{refused_sizes, refused_orders, refused_members, left_to_needs, sizes_fine, orders_fine, members_fine, placed_all, all_ok}
 use Rattle.script.proofs.checks.check.Goals as goal
 
-pub returns-in-No : goal.returns-in-No
-returns-in-No c =
-    let asked : Script = script_of c.args.query.now c.args.coords.now c.args.indexes.now c.args.kinds.now in
-    let room : ScriptRoom = room_of c.args.counts c.args.words c.args.summary c.args.pivots c.args.shareds in
-    (refused_sizes asked room _ (sym c.check_sizes-sizes.ensures ∙ c.in-No.is), λ e. absurd (no_fine _ e))
+pub returns-in_err-check_sizes-clause-verdict : goal.returns-in_err-check_sizes-clause-verdict
+returns-in_err-check_sizes-clause-verdict c =
+    let p = err_from_is_err_and c.from_residual.result c.from_residual.ensures.1 in
+    rw (p.1, p.2) (refused_sizes (asked c.args.input) (lengths_of c.args.lent) _ (sym c.in_err-check_sizes.ensures))
 
-pub check_orders-orders-requires : goal.check_orders-orders-requires
-check_orders-orders-requires c =
-    let asked : Script = script_of c.args.query.now c.args.coords.now c.args.indexes.now c.args.kinds.now in
-    let fine₁ : sizes asked ≡ Fine = sym c.check_sizes-sizes.ensures ∙ c.in_default.is in
-    let z = sizes_fine asked fine₁ in
-    (omega (arith, z.few_hashes), omega (arith, z.few_coords))
+pub check_orders-requires : goal.check_orders-requires
+check_orders-requires c =
+    let z = sizes_fine (asked c.args.input) (sym c.in_ok-check_sizes.ensures) in
+    record { query = omega (arith, z.few_hashes); coords = omega (arith, z.few_coords) }
 
-pub returns-in-No-orders : goal.returns-in-No-orders
-returns-in-No-orders c =
-    let asked : Script = script_of c.args.query.now c.args.coords.now c.args.indexes.now c.args.kinds.now in
-    let room : ScriptRoom = room_of c.args.counts c.args.words c.args.summary c.args.pivots c.args.shareds in
-    let fine₁ : sizes asked ≡ Fine = sym c.check_sizes-sizes.ensures ∙ c.in_default.is in
-    (refused_orders asked room fine₁ _ (sym c.check_orders-orders.ensures ∙ c.in-No-orders.is), λ e. absurd (no_fine _ e))
+pub returns-in_err-check_orders-clause-verdict : goal.returns-in_err-check_orders-clause-verdict
+returns-in_err-check_orders-clause-verdict c =
+    let p = err_from_is_err_and c.from_residual-in_err-check_orders.result c.from_residual-in_err-check_orders.ensures.1 in
+    rw (p.1, p.2) (refused_orders (asked c.args.input) (lengths_of c.args.lent) (sym c.in_ok-check_sizes.ensures) _ (sym c.in_err-check_orders.ensures))
 
-pub check_members-members-requires : goal.check_members-members-requires
-check_members-members-requires c =
-    let asked : Script = script_of c.args.query.now c.args.coords.now c.args.indexes.now c.args.kinds.now in
-    let fine₁ : sizes asked ≡ Fine = sym c.check_sizes-sizes.ensures ∙ c.in_default.is in
-    let fine₂ : orders asked ≡ Fine = sym c.check_orders-orders.ensures ∙ c.in_default-orders.is in
-    let z = sizes_fine asked fine₁ in
-    let o = orders_fine asked fine₂ in
-    (z, o.1, o.2, omega (arith, z.few_hashes, c.requires))
+pub check_members-requires : goal.check_members-requires
+check_members-requires c =
+    let z = sizes_fine (asked c.args.input) (sym c.in_ok-check_sizes.ensures) in
+    let o = orders_fine (asked c.args.input) (sym c.in_ok-check_orders.ensures) in
+    record { sized = z; query_asc = o.1; coords_asc = o.2; room = omega (arith, z.few_hashes, c.requires) }
 
-pub returns-in-No-members : goal.returns-in-No-members
-returns-in-No-members c =
-    let asked : Script = script_of c.args.query.now c.args.coords.now c.args.indexes.now c.args.kinds.now in
-    let room : ScriptRoom = room_of c.args.counts c.args.words c.args.summary c.args.pivots c.args.shareds in
-    let fine₁ : sizes asked ≡ Fine = sym c.check_sizes-sizes.ensures ∙ c.in_default.is in
-    let fine₂ : orders asked ≡ Fine = sym c.check_orders-orders.ensures ∙ c.in_default-orders.is in
-    (refused_members asked room fine₁ fine₂ _ (sym c.check_members-members.ensures.0 ∙ c.in-No-members.is), λ e. absurd (no_fine _ e))
+pub returns-in_err-check_members-clause-verdict : goal.returns-in_err-check_members-clause-verdict
+returns-in_err-check_members-clause-verdict c =
+    let p = err_from_is_err_and c.from_residual-in_err-check_members.result c.from_residual-in_err-check_members.ensures.1 in
+    rw (p.1, p.2)
+    (refused_members (asked c.args.input) (lengths_of c.args.lent) (sym c.in_ok-check_sizes.ensures) (sym c.in_ok-check_orders.ensures) _ (sym c.in_err-check_members.ensures.members))
 
-pub check_needs-requires : goal.check_needs-requires
-check_needs-requires c =
-    let asked : Script = script_of c.args.query.now c.args.coords.now c.args.indexes.now c.args.kinds.now in
-    let fine₁ : sizes asked ≡ Fine = sym c.check_sizes-sizes.ensures ∙ c.in_default.is in
-    (sizes_fine asked fine₁).few_coords
+pub returns-clause-verdict : goal.returns-clause-verdict
+returns-clause-verdict c =
+    left_to_needs (asked c.args.input) (lengths_of c.args.lent) (sym c.in_ok-check_sizes.ensures) (sym c.in_ok-check_orders.ensures) _ (sym c.in_ok-check_members.ensures.members) c.check_needs.ensures
 
-pub returns : goal.returns
-returns c =
-    let asked : Script = script_of c.args.query.now c.args.coords.now c.args.indexes.now c.args.kinds.now in
-    let room : ScriptRoom = room_of c.args.counts c.args.words c.args.summary c.args.pivots c.args.shareds in
-    let fine₁ : sizes asked ≡ Fine = sym c.check_sizes-sizes.ensures ∙ c.in_default.is in
-    let fine₂ : orders asked ≡ Fine = sym c.check_orders-orders.ensures ∙ c.in_default-orders.is in
-    let fine₃ : members asked ≡ Fine = sym c.check_members-members.ensures.0 ∙ c.in_default-members.is in (
-      left_to_needs asked room fine₁ fine₂ _ fine₃ c.check_needs.ensures,
-      λ e. c.check_members-members.ensures.1,
-    )
+pub returns-clause-placed : goal.returns-clause-placed
+returns-clause-placed c = all_ok _ (placed_all (members_fine (asked c.args.input) (sym c.in_ok-check_members.ensures.members)) c.in_ok-check_members.ensures.placed)

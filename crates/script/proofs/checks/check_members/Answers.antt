@@ -1,20 +1,19 @@
--- `check_members` goes down `script_members`, where the first bad place of each list is the one that the loop found.
-use mathlib.Core.Path.{◌∙◌}
+-- `check_members` goes down `script_members`, where the first bad place of each list is the one that the walk found.
 use Rattle.base.proofs.Checks.{checks}
-use Rattle.script.proofs.Checking.{placed_to}
+use Rattle.script.proofs.Checking.{some_found, none_found}
 use Rattle.script.proofs.checks.check_members.Goals as goal
 
-pub returns-then-i-query : goal.returns-then-i-query
-returns-then-i-query c =
-    let f = c.first_missing-i.ensures in
-    (c.refused.ensures ∙ simp (← f.0) (search checks depth 40), placed_to f.0 f.1)
+pub returns-in-Some-clause-members : goal.returns-in-Some-clause-members
+returns-in-Some-clause-members c = let f = some_found _ _ _ c.in-Some.ensures.missing in rw f.0 (let m = f.1 in search checks depth 40)
 
-pub returns-then-j-indexes : goal.returns-then-j-indexes
-returns-then-j-indexes c =
-    let f = c.first_missing-i.ensures in
-    (c.refused-then-j-indexes.ensures ∙ simp (← c.first_bad_step-j.ensures, ← f.0) (search checks depth 40), placed_to f.0 f.1)
+pub returns-in-Some-first_bad_step-clause-members : goal.returns-in-Some-first_bad_step-clause-members
+returns-in-Some-first_bad_step-clause-members c =
+    let f = some_found _ _ _ c.in-Some-first_bad_step.ensures in
+    let m = none_found _ _ c.in_default.ensures.missing in
+    rw f.0 (let k = f.1 in search checks depth 40)
 
-pub returns : goal.returns
-returns c =
-    let f = c.first_missing-i.ensures in
-    (simp (← c.first_bad_step-j.ensures, ← f.0) (search checks depth 40), placed_to f.0 f.1)
+pub returns-clause-members : goal.returns-clause-members
+returns-clause-members c =
+    let m = none_found _ _ c.in_default.ensures.missing in
+    let k = none_found _ _ c.in_default-first_bad_step.ensures in
+    search checks depth 40

@@ -1,43 +1,23 @@
 -- `first_missing` walks from hash to hash, and stops at the first whose place has another coordinate or none.
-use mathlib.Core.Path.{refl, ◌∙◌}
+use mathlib.Core.Path.{◌≡◌}
+use Rattle.rules.specs.Checks.{first_missing}
 use native.Mathlib.Omega.{arith}
-use lib.ListN.{length-set}
-use Rattle.script.proofs.Checking.{finding_start, finding_more, finding_past, finding_other, finding_end}
+use Rattle.script.proofs.Checking.{found_some, found_none, placed_to, finding_more, finding_past, finding_other, finding_end}
 use Rattle.script.proofs.checks.first_missing.Goals as goal
-
-pub loop-i-init : goal.loop-i-init
-loop-i-init c = (finding_start _ _ _, refl)
-
-pub reach-at-requires : goal.reach-at-requires
-reach-at-requires c = (c.requires.1, c.loop-i.invariant.0.behind c.loop-i.i (omega arith) c.loop-i-test.true)
-
-pub shape_of-places-then-coords-at : goal.shape_of-places-then-coords-at
-shape_of-places-then-coords-at c = c.loop-i.invariant.1
+use Rattle.script.proofs.checks.first_missing.Goals.{then-coords-at-via-then-coords-at, then-coords-at-via-else-coords-at+then-coords-at-2}
 
 pub returns-then-coords-at : goal.returns-then-coords-at
-returns-then-coords-at c = (finding_past c.loop-i.invariant.0 c.requires.0 c.requires.1 c.loop-i-test.true c.reach-at.result c.reach-at.ensures c.if-coords-at.true, c.loop-i.invariant.0.placed)
-
-pub shape_of-places-then-coords-at-2 : goal.shape_of-places-then-coords-at-2
-shape_of-places-then-coords-at-2 c = c.loop-i.invariant.1
-
-pub returns-then-coords-at-2 : goal.returns-then-coords-at-2
-returns-then-coords-at-2 c = (finding_other c.loop-i.invariant.0 c.requires.0 c.requires.1 c.loop-i-test.true c.reach-at.result c.reach-at.ensures c.if-coords-at-2.true, c.loop-i.invariant.0.placed)
-
-pub overflow_cast-places : goal.overflow_cast-places
-overflow_cast-places c = omega (arith, c.if-coords-at.false, c.requires.2)
-
-pub bounds-places-i : goal.bounds-places-i
-bounds-places-i c = omega (arith, c.loop-i-test.true, c.requires.3, c.loop-i.invariant.1)
+returns-then-coords-at c =
+    let i = c.loop-i.invariant in
+    let here : c.loop-i.i ≡ first_missing c.args.coords.hashes.now c.args.query.hashes.now =
+    elim c.then-coords-at.branch [
+      | then-coords-at-via-then-coords-at w ↦ finding_past i c.args.query.asc c.args.coords.asc c.loop-i-test.true _ c.reach-at.ensures w.if-coords-at.true
+      | then-coords-at-via-else-coords-at+then-coords-at-2 w ↦ finding_other i c.args.query.asc c.args.coords.asc c.loop-i-test.true _ c.reach-at.ensures w.if-coords-at-2.true
+    ] in
+    record { missing = found_some here c.loop-i-test.true; placed = placed_to here i.placed }
 
 pub loop-i-preserved : goal.loop-i-preserved
-loop-i-preserved c = (
-  finding_more c.loop-i.invariant.0 c.requires.0 c.requires.1 c.loop-i-test.true c.reach-at.result c.reach-at.ensures (omega (arith, c.if-coords-at.false)) c.if-coords-at-2.false
-      (omega (arith, c.loop-i-test.true, c.requires.3, c.loop-i.invariant.1)),
-  length-set c.loop-i.places c.loop-i.i c.reach-at.result ∙ c.loop-i.invariant.1,
-)
-
-pub shape_of-places : goal.shape_of-places
-shape_of-places c = c.loop-i.invariant.1
+loop-i-preserved c = finding_more c.loop-i.invariant c.args.query.asc c.args.coords.asc c.loop-i-test.true _ c.reach-at.ensures c.if-coords-at.false c.if-coords-at-2.false (omega arith)
 
 pub returns : goal.returns
-returns c = (finding_end c.loop-i.invariant.0 c.loop-i-test.false, c.loop-i.invariant.0.placed)
+returns c = let here = finding_end c.loop-i.invariant c.loop-i-test.false in record { missing = found_none here (omega arith); placed = placed_to here c.loop-i.invariant.placed }

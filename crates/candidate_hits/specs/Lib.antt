@@ -1,2 +1,0 @@
--- Groups: what the parts that gather the kept hits promise each other
-pub mod Groups

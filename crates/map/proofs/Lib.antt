@@ -1,2 +1,0 @@
--- Within: what `run` writes stands in its output
-pub mod Within

@@ -1,8 +1,0 @@
--- `early` answers none, with nothing counted.
-use mathlib.Core.Path.{refl}
-use Rattle.rules.specs.Place.{no_stats}
-use Rattle.minimizer_sweep.proofs.early.Goals as goal
-
-pub returns : goal.returns
-unfolding no_stats
-returns c = refl
