@@ -6,13 +6,14 @@ ghost use Rattle.coordinates.specs.Coordinates.{Lent, Numbered};
 
 use super::joined::Hashes;
 
+// By index, and no `copy_from_slice`: it wants `memmove` from outside, and the archive for C needs no name but `memset`.
 fn gather(hashes: Hashes<'_>, keys: &mut [u64])
     requires { length keys.old ≡ length hashes.query.now + length hashes.items.now }
     ensures { keys.new ≡ hashes.entry.query.now ++ hashes.entry.items.now }
 {
-    let k = hashes.query.len();
-    keys[..k].copy_from_slice(hashes.query);
-    keys[k..].copy_from_slice(hashes.items);
+    for i in 0..keys.len() {
+        keys[i] = hashes.at(i);
+    }
 }
 
 // The number of each hash among these coordinates. By index: what is written through an iterator is not known to the proof afterwards.

@@ -19,10 +19,10 @@ const JOB_LIMIT: usize = 65535;
 // What the fields so far tell the next: the last tag, 0 where there is none, as in the rules, since it lies below every tag; the mode, minimizer as long as none was read; and how many bytes the fields with that tag
 // have, joined.
 #[derive(Clone, Copy, Debug, PartialEq, Eq)]
-struct Seen {
-    before: u8,
-    mode: Mode,
-    joined: usize,
+pub struct Seen {
+    pub before: u8,
+    pub mode: Mode,
+    pub joined: usize,
 }
 
 impl Seen {

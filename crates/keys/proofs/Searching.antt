@@ -11,6 +11,7 @@ use native.Mathlib.Omega.{arith}
 use lib.ListN.{length, get_or}
 use Rattle.std.proofs.lemmas.List.{length-map, get_or-map}
 use lib.Pow.{shl_exact, pow_pos}
+use lib.Count.{count_leading_zeros, leading_top}
 use borrow.Author.Tests.{lt-ltb, le-ltb}
 use Rattle.base.specs.Pick.{pick}
 use Rattle.base.specs.Lists.{Asc}
@@ -77,6 +78,14 @@ double (suc s) p = let e : suc s - 1 ≡ s = omega arith in rw e (pow-suc 2 s �
 -- a number below two, shifted, loses no bit
 pub shifted : (b s : ℕ) → b < 2 → s < 64 → (b * 2 ^ s) % 2 ^ 64 ≡ b * 2 ^ s
 shifted b s l m = shl_exact {a = b} 1 s 64 (omega arith) (omega arith)
+
+-- the place of the highest bit
+pub within_top : (n : ℕ) → 0 < n → n < 2 ^ 64 → Within n (63 - count_leading_zeros 64 n)
+within_top n p l =
+    let t = leading_top 64 n p l in
+    let j : 63 - count_leading_zeros 64 n ≡ t.0 = omega (arith, t.1) in
+    let e : 2 ^ suc t.0 ≡ 2 ^ t.0 + 2 ^ t.0 = pow-suc 2 t.0 ∙ (omega arith) in
+    rw j (record { few = omega (arith, t.1); low = t.2; high = omega (arith, e, t.3) })
 
 -- 0 or 1 times m
 pub times_most : (b m : ℕ) → b < 2 → b * m ≤ m

@@ -19,7 +19,7 @@ use Rattle.std.specs.Prelude.{Option, Some, None, Ok, Err}
 use Rattle.rules.specs.Text.{text}
 use Rattle.rules.specs.Job.{Job}
 use Rattle.rules.specs.Lines.{digits, decimal, hex_digit, hex, line, counts_line, mapped_line, identity_line, answer_lines}
-use Rattle.lines.specs.Written.{Written, Wrote, radix, digit_count, bits_line, lines_by}
+use Rattle.lines.specs.Written.{Written, Wrote, radix, digit_count, bits_line, told, lines_by}
 use Rattle.lines.specs.declared.writer.Writer.{Writer}
 
 -- ---- behind each other
@@ -263,12 +263,12 @@ front_over {bytes} {entry} w =
     (w.next ∙ here, w.is ∙ ap (λ (k : ℕ). bytes ++ drop k entry) here)
 
 -- where the bits are the job's, the lines are the rules'
-pub lines_are : (j : Job) (a : SweepAnswer) → lines_by j.identity_bits j.upper_bits a ≡ answer_lines j a
-unfolding lines_by answer_lines bits_line identity_line
+pub lines_are : (j : Job) (a : SweepAnswer) → lines_by j.identity_bits j.upper_bits (told a) ≡ answer_lines j a
+unfolding lines_by told answer_lines bits_line identity_line
 lines_are j (Err r) = refl
 lines_are j (Ok o) = go o.place refl
   where
-    go : (p : Option Place) → o.place ≡ p → lines_by j.identity_bits j.upper_bits (Ok o) ≡ answer_lines j (Ok o)
+    go : (p : Option Place) → o.place ≡ p → lines_by j.identity_bits j.upper_bits (told (Ok o)) ≡ answer_lines j (Ok o)
     go None e = rw e
     go (Some p) e = rw e
 

@@ -1,8 +1,11 @@
 -- Bytes written into an array at an offset, and digits by their base.
-use Rattle.std.specs.Prelude.{ℕ, zero, suc, Some, None, Ok, Err, ◌+◌, ◌/◌, ◌%◌, ◌≤◌, ◌≡◌, true, false, List, [], ◌∷◌, ◌++◌, ltb, length, get_or, take, drop}
+use Rattle.std.specs.Prelude.{ℕ, zero, suc, Result, Some, None, Ok, Err, ◌+◌, ◌/◌, ◌%◌, ◌≤◌, ◌≡◌, true, false, List, [], ◌∷◌, ◌++◌, ltb, length, get_or, take, drop}
 use Rattle.base.specs.Verdicts.{number_of}
 use Rattle.base.specs.Answers.{SweepAnswer}
+use Rattle.base.specs.declared.Refusal.{Refusal}
+use Rattle.base.specs.declared.Outcome.{Outcome}
 use Rattle.rules.specs.Text.{text}
+use Rattle.lines.specs.declared.Told.{Told}
 use Rattle.lines.specs.declared.writer.Writer.{Writer}
 use Rattle.rules.specs.Lines.{hex_digit, hex, line, counts_line, refused_line, mapped_line}
 
@@ -32,9 +35,18 @@ digit_count (suc fuel) n = elim (ltb n 10) [ true ↦ 1 | false ↦ suc (digit_c
 unfoldable pub bits_line : ℕ → ℕ → List ℕ
 bits_line identity upper = line (text "identity") (hex 16 identity ∷ hex 16 upper ∷ [])
 
+-- what is printed of a refusal
+abbrev pub told_of : Refusal → Told
+told_of r = record { number = number_of r.reason; place = r.place }
+
+-- and of an answer
+unfoldable pub told : SweepAnswer → Result Outcome Told
+told (Err r) = Err (told_of r)
+told (Ok o) = Ok o
+
 -- the lines of an answer, where these are the bits of the job's estimates
-unfoldable pub lines_by : List ℕ → List ℕ → SweepAnswer → List ℕ
-lines_by identities uppers (Err r) = refused_line (number_of r.reason) r.place
+unfoldable pub lines_by : List ℕ → List ℕ → Result Outcome Told → List ℕ
+lines_by identities uppers (Err r) = refused_line r.number r.place
 lines_by identities uppers (Ok o) = elim o.place [
   | None ↦ line (text "none") [] ++ counts_line o.stats
   | Some p ↦ mapped_line p ++ (bits_line (get_or identities p.shared 0) (get_or uppers p.shared 0) ++ counts_line o.stats)

@@ -3,16 +3,34 @@
 
 mod writer;
 
-ghost use Rattle.base.specs.Verdicts.{number_of};
+ghost use Rattle.std.specs.Prelude.{◌≡◌};
 ghost use Rattle.rules.specs.Lines.{refused_line};
-ghost use Rattle.lines.specs.Written.{Written, lines_by};
+ghost use Rattle.lines.specs.Written.{Written, told_of, lines_by};
 
 use base::{Outcome, Refusal};
 use writer::Writer;
 
+// A refusal as it is printed: any number of 8 bits, and the place.
+#[derive(Clone, Copy, Debug, PartialEq, Eq)]
+pub struct Told {
+    pub number: u8,
+    pub place: u32,
+}
+
+impl From<Refusal> for Told {
+    ghost from_gives = { λ refusal told. told ≡ told_of refusal };
+
+    fn from(refusal: Refusal) -> Self {
+        Told {
+            number: refusal.reason.number(),
+            place: refusal.place,
+        }
+    }
+}
+
 // The longest answer has 204 bytes. The count of bytes at the front of `out` is returned; what is past them is untouched.
-pub fn say_refused(out: &mut [u8; 256], refusal: Refusal) -> usize
-    ensures { Written 0 (refused_line (number_of refusal.reason) refusal.place) out.old result out.new }
+pub fn say_refused(out: &mut [u8; 256], refusal: Told) -> usize
+    ensures { Written 0 (refused_line refusal.number refusal.place) out.old result out.new }
 {
     let mut writer = Writer { out, at: 0 };
     writer.refused_line(refusal);
@@ -22,7 +40,7 @@ pub fn say_refused(out: &mut [u8; 256], refusal: Refusal) -> usize
 // The lines of an answer; the bits are those of the job's estimates, as they stood.
 pub fn say(
     out: &mut [u8; 256],
-    answer: Result<Outcome, Refusal>,
+    answer: Result<Outcome, Told>,
     identities: &[u64],
     uppers: &[u64],
 ) -> usize

@@ -4,7 +4,8 @@ ghost use Rattle.std.specs.Prelude.{◌≡◌, ◌+◌, ◌≤◌, ◌<◌, leng
 ghost use Rattle.rules.specs.Lines.{hex_digit};
 ghost use Rattle.lines.specs.Written.{radix, digit_count};
 
-use base::{Outcome, Place, Refusal, Stats};
+use crate::Told;
+use base::{Outcome, Place, Stats};
 
 // The byte of a digit, lower case.
 #[tactic(auto, unfolding(rules::specs::Lines::hex_digit, base::specs::Pick::pick))]
@@ -61,7 +62,6 @@ pub struct Writer<'a> {
 
 impl Writer<'_> {
     ghost use Rattle.std.specs.Prelude.{[], ◌++◌, ◌*◌, map};
-    ghost use Rattle.base.specs.Verdicts.{number_of};
     ghost use Rattle.rules.specs.Text.{text};
     ghost use Rattle.rules.specs.Lines.{decimal, hex, line, counts_line, refused_line, mapped_line};
     ghost use Rattle.lines.specs.Written.{Wrote, bits_line, lines_by};
@@ -130,11 +130,11 @@ impl Writer<'_> {
     }
 
     // A refusal: its number and its place.
-    pub fn refused_line(&mut self, refusal: Refusal)
+    pub fn refused_line(&mut self, refusal: Told)
         requires { self.old.at + 50 ≤ length self.old.out.now }
-        ensures { Wrote (refused_line (number_of refusal.reason) refusal.place) self.old self.new }
+        ensures { Wrote (refused_line refusal.number refusal.place) self.old self.new }
     {
-        let number = u64::from(refusal.reason.number());
+        let number = u64::from(refusal.number);
         let place = u64::from(refusal.place);
         self.line(b"refused", &[number, place]);
     }
@@ -175,7 +175,7 @@ impl Writer<'_> {
     // The lines of an answer.
     pub fn answer_lines(
         &mut self,
-        answer: Result<Outcome, Refusal>,
+        answer: Result<Outcome, Told>,
         identities: &[u64],
         uppers: &[u64],
     )

@@ -1,6 +1,8 @@
 // The mapping program: reads a job from standard input, to its end or to one byte more than a job may have, and prints what `run` says of it. Nothing else is printed.
 #![tactic(auto)]
 
+ghost use Rattle.std.specs.Prelude.{◌≤◌, length};
+
 use std::io::{Read, Write};
 
 // The bytes that were read, and whether a read failed behind them: a failed read is no end of the job. There are bytes either way, and `run` is
@@ -12,7 +14,9 @@ struct Input<'a> {
 }
 
 // Reads until the input ends, a read fails, or the room is full. Each turn reads a byte or more or is the last, so there are never more turns than bytes.
-fn read_all<'a, R: Read>(reader: &mut R, room: &'a mut [u8]) -> Input<'a> {
+fn read_all<'a, R: Read>(reader: &mut R, room: &'a mut [u8]) -> Input<'a>
+    ensures { length result.bytes.now ≤ length room.old }
+{
     let mut count = 0;
     let mut failed = false;
     for _ in 0..room.len() {

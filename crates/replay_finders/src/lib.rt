@@ -15,24 +15,13 @@ const RANGES: usize = ANSWER + 2;
 
 const LISTS: usize = 17;
 
-// Room for the lists of the hits.
+// Room for the lists of the hits. The arrays stand in the functions that replay: a struct of arrays that is handed back is copied whole.
 #[derive(Drop)]
-struct Rooms {
-    groups: [u32; MOST],
-    contigs: [u32; MOST],
-    starts: [u32; MOST],
-    ends: [u32; MOST],
-}
-
-impl Rooms {
-    fn new() -> Rooms {
-        Rooms {
-            groups: [0; MOST],
-            contigs: [0; MOST],
-            starts: [0; MOST],
-            ends: [0; MOST],
-        }
-    }
+struct Rooms<'a> {
+    groups: &'a mut [u32],
+    contigs: &'a mut [u32],
+    starts: &'a mut [u32],
+    ends: &'a mut [u32],
 }
 
 // The hits that a call is told.
@@ -45,7 +34,7 @@ struct Hits<'a> {
 }
 
 impl<'a> Hits<'a> {
-    fn read(lists: &mut Lists<'_>, rooms: &'a mut Rooms) -> Result<Hits<'a>, Fault> {
+    fn read(lists: &mut Lists<'_>, rooms: Rooms<'a>) -> Result<Hits<'a>, Fault> {
         let Rooms {
             groups,
             contigs,
@@ -61,32 +50,23 @@ impl<'a> Hits<'a> {
     }
 }
 
-// The lists that both kinds are lent.
-#[derive(Drop)]
-struct Lent {
-    keys: [u64; MOST],
-    contigs: [u32; MOST],
-    starts: [u32; MOST],
-    ends: [u32; MOST],
+// The lists that both kinds are lent, after the call.
+#[derive(Clone, Copy)]
+struct Lent<'a> {
+    keys: &'a [u64],
+    contigs: &'a [u32],
+    starts: &'a [u32],
+    ends: &'a [u32],
 }
 
-impl Lent {
-    fn new() -> Lent {
-        Lent {
-            keys: [POISON_WORD; MOST],
-            contigs: [POISON; MOST],
-            starts: [POISON; MOST],
-            ends: [POISON; MOST],
-        }
-    }
-
+impl Lent<'_> {
     // Whether so many keys are zero, the outputs hold the record's ranges, and all else is as it was.
-    fn left(&self, keys: usize, mut ranges: Lists<'_>) -> Result<bool, Fault> {
+    fn left(self, keys: usize, mut ranges: Lists<'_>) -> Result<bool, Fault> {
         Ok(
-            zeroed(&self.keys, keys)
-                && holds(&self.contigs, ranges.list(RANGES)?)
-                && holds(&self.starts, ranges.list(RANGES)?)
-                && holds(&self.ends, ranges.list(RANGES)?),
+            zeroed(self.keys, keys)
+                && holds(self.contigs, ranges.list(RANGES)?)
+                && holds(self.starts, ranges.list(RANGES)?)
+                && holds(self.ends, ranges.list(RANGES)?),
         )
     }
 }
@@ -102,15 +82,11 @@ fn answered(record: Record<'_>, answer: Result<Finding, Refusal>) -> bool {
     }
 }
 
-// Replays a record of the minimizer finder. What it has of `intervals` is in the structs and `answered`; the rest is the call, whose lists
-// differ, so that one function of both would pass as many to a closure.
-pub fn minimizers(record: Record<'_>) -> Result<(), Fault> {
-    // No list is lent for keys of ends, but the record has a size for one.
-    record.size(9)?;
-    let mut rooms = Rooms::new();
-    let mut lists = record.lists(LISTS)?;
-    let hits = Hits::read(&mut lists, &mut rooms)?;
-    let mut lent = Lent::new();
+fn find_minimizers(record: Record<'_>, hits: Hits<'_>, ranges: Lists<'_>) -> Result<(), Fault> {
+    let mut keys = [POISON_WORD; MOST];
+    let mut contigs = [POISON; MOST];
+    let mut starts = [POISON; MOST];
+    let mut ends = [POISON; MOST];
     let answer = candidate_window::minimizer_finder(
         hits.groups,
         hits.contigs,
@@ -118,22 +94,28 @@ pub fn minimizers(record: Record<'_>) -> Result<(), Fault> {
         record.word(3)?,
         record.number(1)?,
         record.number(2)?,
-        &mut lent.keys[..record.size(8)?],
-        &mut lent.contigs[..record.size(10)?],
-        &mut lent.starts[..record.size(11)?],
-        &mut lent.ends[..record.size(12)?],
+        &mut keys[..record.size(8)?],
+        &mut contigs[..record.size(10)?],
+        &mut starts[..record.size(11)?],
+        &mut ends[..record.size(12)?],
     );
-    let keys = if answer.is_ok() { record.size(5)? } else { 0 };
-    Fault::unless(answered(record, answer) && lent.left(keys, lists)?)
+    let cleared = if answer.is_ok() { record.size(5)? } else { 0 };
+    let lent = Lent {
+        keys: &keys,
+        contigs: &contigs,
+        starts: &starts,
+        ends: &ends,
+    };
+    Fault::unless(answered(record, answer) && lent.left(cleared, ranges)?)
 }
 
-// Replays a record of the interval finder, which wants keys of ends besides.
-pub fn intervals(record: Record<'_>) -> Result<(), Fault> {
-    let mut rooms = Rooms::new();
-    let mut lists = record.lists(LISTS)?;
-    let hits = Hits::read(&mut lists, &mut rooms)?;
-    let mut lent = Lent::new();
+// The interval finder wants keys of ends besides.
+fn find_intervals(record: Record<'_>, hits: Hits<'_>, ranges: Lists<'_>) -> Result<(), Fault> {
+    let mut keys = [POISON_WORD; MOST];
     let mut end_keys = [POISON_WORD; MOST];
+    let mut contigs = [POISON; MOST];
+    let mut starts = [POISON; MOST];
+    let mut ends = [POISON; MOST];
     let answer = candidate_intervals::interval_finder(
         hits.groups,
         hits.contigs,
@@ -141,12 +123,61 @@ pub fn intervals(record: Record<'_>) -> Result<(), Fault> {
         hits.ends,
         record.word(3)?,
         record.number(1)?,
-        &mut lent.keys[..record.size(8)?],
+        &mut keys[..record.size(8)?],
         &mut end_keys[..record.size(9)?],
-        &mut lent.contigs[..record.size(10)?],
-        &mut lent.starts[..record.size(11)?],
-        &mut lent.ends[..record.size(12)?],
+        &mut contigs[..record.size(10)?],
+        &mut starts[..record.size(11)?],
+        &mut ends[..record.size(12)?],
     );
-    let keys = if answer.is_ok() { record.size(5)? } else { 0 };
-    Fault::unless(answered(record, answer) && zeroed(&end_keys, keys) && lent.left(keys, lists)?)
+    let cleared = if answer.is_ok() { record.size(5)? } else { 0 };
+    let lent = Lent {
+        keys: &keys,
+        contigs: &contigs,
+        starts: &starts,
+        ends: &ends,
+    };
+    Fault::unless(
+        answered(record, answer) && zeroed(&end_keys, cleared) && lent.left(cleared, ranges)?,
+    )
+}
+
+// Replays a record of the minimizer finder. What it has of `intervals` is in the structs and `answered`; the rest is the call, whose lists
+// differ, so that one function of both would pass as many to a closure.
+// Not inlined: else the arrays of every replay stand in one frame, side by side.
+#[inline(never)]
+pub fn minimizers(record: Record<'_>) -> Result<(), Fault> {
+    // No list is lent for keys of ends, but the record has a size for one.
+    record.size(9)?;
+    let mut groups = [0u32; MOST];
+    let mut contigs = [0u32; MOST];
+    let mut starts = [0u32; MOST];
+    let mut ends = [0u32; MOST];
+    let rooms = Rooms {
+        groups: &mut groups,
+        contigs: &mut contigs,
+        starts: &mut starts,
+        ends: &mut ends,
+    };
+    let mut lists = record.lists(LISTS)?;
+    let hits = Hits::read(&mut lists, rooms)?;
+    find_minimizers(record, hits, lists)
+}
+
+// Replays a record of the interval finder.
+// Not inlined, likewise.
+#[inline(never)]
+pub fn intervals(record: Record<'_>) -> Result<(), Fault> {
+    let mut groups = [0u32; MOST];
+    let mut contigs = [0u32; MOST];
+    let mut starts = [0u32; MOST];
+    let mut ends = [0u32; MOST];
+    let rooms = Rooms {
+        groups: &mut groups,
+        contigs: &mut contigs,
+        starts: &mut starts,
+        ends: &mut ends,
+    };
+    let mut lists = record.lists(LISTS)?;
+    let hits = Hits::read(&mut lists, rooms)?;
+    find_intervals(record, hits, lists)
 }

@@ -10,6 +10,8 @@ const BYTES: usize = 4;
 const POISON: u8 = 0xa5;
 
 // Replays a record.
+// Not inlined: else the arrays of every replay stand in one frame, side by side.
+#[inline(never)]
 pub fn replay(record: Record<'_>) -> Result<(), Fault> {
     let mut room = [0u8; 65536];
     let mut told = [POISON; 256];

@@ -26,6 +26,8 @@ fn answered(record: Record<'_>, answer: Result<Slide, Refusal>) -> bool {
 }
 
 // Replays a record.
+// Not inlined: else the arrays of every replay stand in one frame, side by side.
+#[inline(never)]
 pub fn replay(record: Record<'_>) -> Result<(), Fault> {
     let mut indexes = [0u32; MOST];
     let mut kinds = [0u8; MOST];

@@ -17,24 +17,14 @@ const COUNTS: usize = ANSWER + 9;
 
 const LISTS: usize = 31;
 
-// Room for the lists that a call takes at a width of their own.
+// Room for the lists that a call takes at a width of their own. The arrays stand in the functions that replay: a struct of arrays that is handed
+// back is copied whole.
 #[derive(Drop)]
-struct Rooms {
-    starts: [u32; MOST],
-    ends: [u32; MOST],
-    identities: [f64; MOST],
-    uppers: [f64; MOST],
-}
-
-impl Rooms {
-    fn new() -> Rooms {
-        Rooms {
-            starts: [0; MOST],
-            ends: [0; MOST],
-            identities: [0.0; MOST],
-            uppers: [0.0; MOST],
-        }
-    }
+struct Rooms<'a> {
+    starts: &'a mut [u32],
+    ends: &'a mut [u32],
+    identities: &'a mut [f64],
+    uppers: &'a mut [f64],
 }
 
 // What a call is told.
@@ -53,7 +43,7 @@ struct Task<'a> {
 }
 
 impl<'a> Task<'a> {
-    fn read(record: Record<'a>, rooms: &'a mut Rooms) -> Result<Task<'a>, Fault> {
+    fn read(record: Record<'a>, rooms: Rooms<'a>) -> Result<Task<'a>, Fault> {
         let Rooms {
             starts,
             ends,
@@ -82,35 +72,25 @@ impl<'a> Task<'a> {
     }
 }
 
-// The work lists that both kinds are lent.
-#[derive(Drop)]
-struct Work {
-    keys: [u64; MOST],
-    counts: [u32; MOST],
-    coords: [u32; MOST],
-    bits: [u64; MOST],
-    summary: [u64; MOST],
+// The work lists that both kinds are lent, after the call.
+#[derive(Clone, Copy)]
+struct Work<'a> {
+    keys: &'a [u64],
+    counts: &'a [u32],
+    coords: &'a [u32],
+    bits: &'a [u64],
+    summary: &'a [u64],
 }
 
-impl Work {
-    fn new() -> Work {
-        Work {
-            keys: [POISON_WORD; MOST],
-            counts: [POISON; MOST],
-            coords: [POISON; MOST],
-            bits: [POISON_WORD; MOST],
-            summary: [POISON_WORD; MOST],
-        }
-    }
-
+impl Work<'_> {
     // Whether what so many hashes need is zero and all else is as it was.
-    fn left(&self, hashes: usize) -> bool {
+    fn left(self, hashes: usize) -> bool {
         let blocks = hashes.div_ceil(64);
-        zeroed(&self.keys, hashes)
-            && zeroed(&self.counts, hashes)
-            && zeroed(&self.coords, hashes)
-            && zeroed(&self.bits, blocks)
-            && zeroed(&self.summary, blocks.div_ceil(64))
+        zeroed(self.keys, hashes)
+            && zeroed(self.counts, hashes)
+            && zeroed(self.coords, hashes)
+            && zeroed(self.bits, blocks)
+            && zeroed(self.summary, blocks.div_ceil(64))
     }
 }
 
@@ -156,14 +136,20 @@ fn answered(record: Record<'_>, answer: Result<Outcome, Refusal>) -> Result<bool
     }
 }
 
-// Replays a record of the minimizer sweep. What it has of `intervals` is in the three structs and `answered`; the rest is the call, whose lists
-// differ, so that one function of both would pass as many to a closure.
-pub fn minimizers(record: Record<'_>) -> Result<(), Fault> {
-    // No list is lent for event keys, but the record has a size for one.
-    record.size(18)?;
-    let mut rooms = Rooms::new();
-    let task = Task::read(record, &mut rooms)?;
-    let mut work = Work::new();
+// How many hashes have left their zeros in the work lists: those of the query and the items, and none where the call is refused.
+fn hashes_of(record: Record<'_>, answer: Result<Outcome, Refusal>) -> Result<usize, Fault> {
+    if answer.is_err() {
+        return Ok(0);
+    }
+    Ok(record.size(7)? + record.size(8)?)
+}
+
+fn sweep_minimizers(record: Record<'_>, task: Task<'_>) -> Result<(), Fault> {
+    let mut keys = [POISON_WORD; MOST];
+    let mut counts = [POISON; MOST];
+    let mut coords = [POISON; MOST];
+    let mut bits = [POISON_WORD; MOST];
+    let mut summary = [POISON_WORD; MOST];
     let answer = minimizer_sweep::minimizer_sweep(
         task.settings,
         task.window,
@@ -174,25 +160,30 @@ pub fn minimizers(record: Record<'_>) -> Result<(), Fault> {
         task.identities,
         task.uppers,
         task.minimum,
-        &mut work.keys[..record.size(13)?],
-        &mut work.counts[..record.size(14)?],
-        &mut work.coords[..record.size(15)?],
-        &mut work.bits[..record.size(16)?],
-        &mut work.summary[..record.size(17)?],
+        &mut keys[..record.size(13)?],
+        &mut counts[..record.size(14)?],
+        &mut coords[..record.size(15)?],
+        &mut bits[..record.size(16)?],
+        &mut summary[..record.size(17)?],
     );
-    let hashes = if answer.is_ok() {
-        record.size(7)? + record.size(8)?
-    } else {
-        0
+    let hashes = hashes_of(record, answer)?;
+    let work = Work {
+        keys: &keys,
+        counts: &counts,
+        coords: &coords,
+        bits: &bits,
+        summary: &summary,
     };
     Fault::unless(answered(record, answer)? && work.left(hashes))
 }
 
-// Replays a record of the interval sweep, which wants event keys besides, two for each interval.
-pub fn intervals(record: Record<'_>) -> Result<(), Fault> {
-    let mut rooms = Rooms::new();
-    let task = Task::read(record, &mut rooms)?;
-    let mut work = Work::new();
+// The interval sweep wants event keys besides, two for each interval.
+fn sweep_intervals(record: Record<'_>, task: Task<'_>) -> Result<(), Fault> {
+    let mut keys = [POISON_WORD; MOST];
+    let mut counts = [POISON; MOST];
+    let mut coords = [POISON; MOST];
+    let mut bits = [POISON_WORD; MOST];
+    let mut summary = [POISON_WORD; MOST];
     let mut events = [POISON_WORD; MOST];
     let answer = interval_sweep::interval_sweep(
         task.settings,
@@ -204,17 +195,62 @@ pub fn intervals(record: Record<'_>) -> Result<(), Fault> {
         task.identities,
         task.uppers,
         task.minimum,
-        &mut work.keys[..record.size(13)?],
-        &mut work.counts[..record.size(14)?],
-        &mut work.coords[..record.size(15)?],
-        &mut work.bits[..record.size(16)?],
-        &mut work.summary[..record.size(17)?],
+        &mut keys[..record.size(13)?],
+        &mut counts[..record.size(14)?],
+        &mut coords[..record.size(15)?],
+        &mut bits[..record.size(16)?],
+        &mut summary[..record.size(17)?],
         &mut events[..record.size(18)?],
     );
-    let (hashes, ends) = if answer.is_ok() {
-        (record.size(7)? + record.size(8)?, 2 * record.size(10)?)
+    let hashes = hashes_of(record, answer)?;
+    let ends = if answer.is_ok() {
+        2 * record.size(10)?
     } else {
-        (0, 0)
+        0
+    };
+    let work = Work {
+        keys: &keys,
+        counts: &counts,
+        coords: &coords,
+        bits: &bits,
+        summary: &summary,
     };
     Fault::unless(answered(record, answer)? && work.left(hashes) && zeroed(&events, ends))
+}
+
+// Replays a record of the minimizer sweep. What it has of `intervals` is in the structs and `answered`; the rest is the call, whose lists
+// differ, so that one function of both would pass as many to a closure.
+// Not inlined: else the arrays of every replay stand in one frame, side by side.
+#[inline(never)]
+pub fn minimizers(record: Record<'_>) -> Result<(), Fault> {
+    // No list is lent for event keys, but the record has a size for one.
+    record.size(18)?;
+    let mut starts = [0u32; MOST];
+    let mut ends = [0u32; MOST];
+    let mut identities = [0.0; MOST];
+    let mut uppers = [0.0; MOST];
+    let rooms = Rooms {
+        starts: &mut starts,
+        ends: &mut ends,
+        identities: &mut identities,
+        uppers: &mut uppers,
+    };
+    sweep_minimizers(record, Task::read(record, rooms)?)
+}
+
+// Replays a record of the interval sweep.
+// Not inlined, likewise.
+#[inline(never)]
+pub fn intervals(record: Record<'_>) -> Result<(), Fault> {
+    let mut starts = [0u32; MOST];
+    let mut ends = [0u32; MOST];
+    let mut identities = [0.0; MOST];
+    let mut uppers = [0.0; MOST];
+    let rooms = Rooms {
+        starts: &mut starts,
+        ends: &mut ends,
+        identities: &mut identities,
+        uppers: &mut uppers,
+    };
+    sweep_intervals(record, Task::read(record, rooms)?)
 }

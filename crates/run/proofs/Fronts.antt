@@ -26,7 +26,8 @@ use Rattle.job_fields.specs.declared.mode.Mode.TheVariants.{Minimizer, Interval}
 use Rattle.job.proofs.Accepted.{accepted, all_fields}
 use Rattle.job.proofs.Decoding.{query_count, items_joined, items_filled, estimates_filled}
 use Rattle.job_fields.proofs.Picks.{pick_yes, pick_no}
-use Rattle.lines.specs.Written.{lines_by}
+use Rattle.base.specs.Answers.{SweepAnswer}
+use Rattle.lines.specs.Written.{told, lines_by}
 use Rattle.lines.proofs.Writing.{lines_are}
 use Rattle.job_answer.specs.Mapped.{points_of, spans_of, minimizer_done, interval_done, answer_in}
 use Rattle.job_answer.proofs.Window.{windowed, window_unseen}
@@ -217,7 +218,8 @@ module _ (j : Job) (p : Parallel j) (l : Lists) where
         rw mode (ap interval_done (spans_are e) ∙ window_unseen 0 j.sweep ∙ sym (pick_no _ _ _ e))
 
     -- and so are the lines
-    pub lines_front : lines_by x.identity_bits.now x.upper_bits.now (answer_in x) ≡ answer_lines j (job_answer j)
+    pub lines_front : lines_by x.identity_bits.now x.upper_bits.now (told (answer_in x)) ≡ answer_lines j (job_answer j)
     lines_front =
-        ap (λ (b : List ℕ). lines_by b x.upper_bits.now (answer_in x)) identity_bits_are ∙ ap (λ (b : List ℕ). lines_by j.identity_bits b (answer_in x)) upper_bits_are ∙
-        ap (lines_by j.identity_bits j.upper_bits) (answer_front (eqb j.mode minimizer_mode) refl) ∙ lines_are j (job_answer j)
+        let printed = told (answer_in x) in
+        ap (λ (b : List ℕ). lines_by b x.upper_bits.now printed) identity_bits_are ∙ ap (λ (b : List ℕ). lines_by j.identity_bits b printed) upper_bits_are ∙
+        ap (λ (a : SweepAnswer). lines_by j.identity_bits j.upper_bits (told a)) (answer_front (eqb j.mode minimizer_mode) refl) ∙ lines_are j (job_answer j)

@@ -22,7 +22,7 @@ use Rattle.job.specs.declared.fill.Decoded.{Decoded}
 use Rattle.job.proofs.Accepted.{read_small}
 use Rattle.lines.specs.Written.{Written}
 use Rattle.lines.proofs.Writing.{front_over}
-use Rattle.lines.specs.Written.{lines_by}
+use Rattle.lines.specs.Written.{told, lines_by}
 use Rattle.job_answer.specs.Mapped.{answer_in}
 use Rattle.run.specs.Held.{Held, Fronts}
 use Rattle.run.proofs.Fronts.{Sized, parallel, within, held, lines_front}
@@ -83,7 +83,7 @@ module _ (bytes : List ℕ) (d : Decoded) (e : Ok d ≡ answer_of (read bytes)) 
     pub job_held : Held d after
     job_held = rw (is_read.2, filled_is) (held (job_of is_read.0) (parallel is_read.0) before (within bytes is_read.0 is_read.1) sized)
 
-    pub said_job : (x : code.Job) → Fronts d after x → lines_by x.identity_bits.now x.upper_bits.now (answer_in x) ≡ said false bytes
+    pub said_job : (x : code.Job) → Fronts d after x → lines_by x.identity_bits.now x.upper_bits.now (told (answer_in x)) ≡ said false bytes
     unfolding said printed pick lines_of
     said_job x f =
         let seen = is_read.0 in

@@ -12,6 +12,7 @@ ghost use Rattle.rules.specs.Place.{estimate_at, settled, no_stats};
 ghost use Rattle.sweep.specs.Work.{Fits};
 
 use base::{Base, Best, Estimate, Outcome, Place, Reason, Refusal, Slide, Stats};
+pub use work::clear;
 
 // 4 and 5: the query ascends strictly, and positions or starts never descend.
 #[tactic(auto, using(std::proofs::lemmas::Bool::Decides::nat_tests), unfolding(base::specs::Pick::pick))]

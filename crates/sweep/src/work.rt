@@ -1,6 +1,7 @@
 // The work lists of a sweep.
 ghost use Rattle.std.specs.Prelude.{◌+◌, length};
 ghost use Rattle.sweep.specs.Beginning.{Exact, Given, Clear, Begins};
+ghost use Rattle.sweep.specs.Work.{Cleared};
 
 use crate::Begun;
 
@@ -23,11 +24,13 @@ impl Work<'_> {
         ensures same { SameWork self.old self.new }
         ensures zero { Zero (length self.old.keys.now) self.new }
     {
-        self.keys.fill(0);
-        self.counts.fill(0);
-        self.coords.fill(0);
-        self.words.fill(0);
-        self.summary.fill(0);
+        clear(
+            self.keys,
+            self.counts,
+            self.coords,
+            self.words,
+            self.summary,
+        );
     }
 
     // Numbers the hashes of query and items, and begins with the query alone. The numbers of the items stand in `coords` behind the query's.
@@ -47,6 +50,27 @@ impl Work<'_> {
             self.summary,
         )
     }
+}
+
+// Clears five lists of any lengths.
+pub fn clear(
+    keys: &mut [u64],
+    counts: &mut [u32],
+    coords: &mut [u32],
+    words: &mut [u64],
+    summary: &mut [u64],
+)
+    ensures keys { Cleared keys.old keys.new }
+    ensures counts { Cleared counts.old counts.new }
+    ensures coords { Cleared coords.old coords.new }
+    ensures words { Cleared words.old words.new }
+    ensures summary { Cleared summary.old summary.new }
+{
+    keys.fill(0);
+    counts.fill(0);
+    coords.fill(0);
+    words.fill(0);
+    summary.fill(0);
 }
 
 // Over the slices: of a list in the struct that one call has written, the next knows no more than the length.

@@ -5,4 +5,4 @@ use Rattle.lines.proofs.writer.Writer.refused_line.Goals as goal
 
 pub returns : goal.returns
 unfolding text refused_line
-returns c = rw (c.from-number.ensures, c.number.ensures, c.from-place.ensures) at c.line.ensures.wrote
+returns c = rw (c.from-number.ensures, c.from-place.ensures) at c.line.ensures.wrote
